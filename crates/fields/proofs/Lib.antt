@@ -1,0 +1,5 @@
+pub mod Bools
+pub mod Tests
+pub mod Stretches
+pub mod Numbers
+pub mod Signed

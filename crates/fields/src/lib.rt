@@ -1,0 +1,97 @@
+// Little-endian fields at an offset of a lent slice. Every function is total: a byte past the end
+// reads as 0, and a store past the end writes nothing.
+ghost use mathlib.Core.Path.{_≡_};
+ghost use Prim.Native.Nat.{_<_};
+ghost use mathlib.Core.List.{[], _∷_};
+ghost use Rattle.fields.specs.Lists.{series, put};
+ghost use Rattle.fields.specs.Fields.{u8At, u16At, u32At, i32At, putU16, putU32, putI32};
+
+fn wide(x: u8) -> u16
+    ensures { λ r. ⌜ (r ≡ x) × (r < 256) ⌝ }
+{
+    x as u16
+}
+
+pub fn u8_at(s: &[u8], at: usize) -> u8
+    ensures { λ r. ⌜ r ≡ u8At (now (s .entry)) at ⌝ }
+{
+    if at < s.len() { s[at] } else { 0 }
+}
+
+pub fn u16_at(s: &[u8], at: usize) -> u16
+    ensures { λ r. ⌜ r ≡ u16At (now (s .entry)) at ⌝ }
+{
+    if s.len() <= at {
+        return 0;
+    }
+    wide(u8_at(s, at)) + 256 * wide(u8_at(s, at + 1))
+}
+
+pub fn u32_at(s: &[u8], at: usize) -> u32
+    ensures { λ r. ⌜ r ≡ u32At (now (s .entry)) at ⌝ }
+{
+    if s.len() <= at {
+        return 0;
+    }
+    (u16_at(s, at) as u32) + 65536 * (u16_at(s, at + 2) as u32)
+}
+
+// Sixteen bytes, as an identifier has them.
+pub fn bytes16_at(s: &[u8], at: usize) -> [u8; 16]
+    ensures { λ r. ⌜ r ≡ series (u8At (now (s .entry))) at 16 ⌝ }
+{
+    let mut bytes = [0u8; 16];
+    if at < s.len() {
+        for j in 0..16usize {
+            bytes[j] = u8_at(s, at + j);
+        }
+    }
+    bytes
+}
+
+pub fn put_u8(s: &mut [u8], at: usize, v: u8)
+    ensures { λ _. ⌜ now (s .exit) ≡ put (now (s .entry)) at (v ∷ []) ⌝ }
+{
+    if at < s.len() {
+        s[at] = v;
+    }
+}
+
+pub fn put_u16(s: &mut [u8], at: usize, v: u16)
+    ensures { λ _. ⌜ now (s .exit) ≡ putU16 (now (s .entry)) at v ⌝ }
+{
+    if at < s.len() {
+        put_u8(s, at, (v % 256) as u8);
+        put_u8(s, at + 1, (v / 256 % 256) as u8);
+    }
+}
+
+pub fn put_u32(s: &mut [u8], at: usize, v: u32)
+    ensures { λ _. ⌜ now (s .exit) ≡ putU32 (now (s .entry)) at v ⌝ }
+{
+    if at < s.len() {
+        put_u16(s, at, (v % 65536) as u16);
+        put_u16(s, at + 2, (v / 65536) as u16);
+    }
+}
+
+// A signed number in two's complement.
+pub fn i32_at(s: &[u8], at: usize) -> i32
+    ensures { λ r. ⌜ r ≡ i32At (now (s .entry)) at ⌝ }
+{
+    let bits = u32_at(s, at);
+    if bits < 2147483648 {
+        return bits as i32;
+    }
+    -1 - ((4294967295 - bits) as i32)
+}
+
+pub fn put_i32(s: &mut [u8], at: usize, v: i32)
+    ensures { λ _. ⌜ now (s .exit) ≡ putI32 (now (s .entry)) at v ⌝ }
+{
+    if 0 <= v {
+        put_u32(s, at, v as u32);
+    } else {
+        put_u32(s, at, 4294967295 - ((-1 - v) as u32));
+    }
+}

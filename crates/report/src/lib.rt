@@ -1,0 +1,172 @@
+// A report: whole or not, its head and its parts, whether they cover a period, and its remark.
+use fields::u16_at;
+use quantities::Minute;
+use quantities::Period;
+use quantities::SignedKilowatt;
+ghost use mathlib.Core.Path.{_≡_};
+ghost use Prim.Native.Nat.{_+_, _≤_};
+ghost use Rattle.fields.specs.Lists.{series};
+ghost use Rattle.report.specs.Report.{headOf, partAt, sized, partMarked, partsMarked, marked, whole};
+ghost use Rattle.report.specs.Cover.{fits, rest, covers, partsCover};
+ghost use Rattle.report.specs.Remark.{remarkNumber, remarkOf};
+
+// The head's fields, without mark and zeros.
+pub struct Head {
+    pub unit: u16,
+    pub owner: u16,
+    pub record_type: u8,
+    pub operation: u8,
+    pub direction: u8,
+    pub start_mark: u8,
+    pub end_mark: u8,
+    pub qualification: u8,
+    pub ordinal: u16,
+    pub part_count: u16,
+    pub identifier: [u8; 16],
+    pub stamp: Minute,
+    pub period: Period,
+    pub text_length: u16,
+}
+
+pub struct Part {
+    pub period: Period,
+    pub power: SignedKilowatt,
+}
+
+pub fn head_of(report: &[u8]) -> Head
+    ensures { λ r. ⌜ r ≡ headOf (now (report .entry)) ⌝ }
+{
+    let identifier = fields::bytes16_at(report, 16);
+    let stamp = quantities::minute_at(report, 32);
+    let period = quantities::period_at(report, 36);
+    Head {
+        unit: u16_at(report, 2),
+        owner: u16_at(report, 4),
+        record_type: fields::u8_at(report, 6),
+        operation: fields::u8_at(report, 7),
+        direction: fields::u8_at(report, 8),
+        start_mark: fields::u8_at(report, 9),
+        end_mark: fields::u8_at(report, 10),
+        qualification: fields::u8_at(report, 11),
+        ordinal: u16_at(report, 12),
+        part_count: u16_at(report, 14),
+        identifier,
+        stamp,
+        period,
+        text_length: u16_at(report, 44),
+    }
+}
+
+// Part i, from 0.
+pub fn part_at(report: &[u8], i: u16) -> Part
+    ensures { λ r. ⌜ r ≡ partAt (now (report .entry)) i ⌝ }
+{
+    let at = 48 + 16 * (i as usize);
+    let period = quantities::period_at(report, at + 4);
+    let power = quantities::signed_kilowatt_at(report, at + 12);
+    Part { period, power }
+}
+
+fn sizes_fit(report: &[u8]) -> bool
+    ensures { λ r. ⌜ r ≡ sized (now (report .entry)) ⌝ }
+{
+    let k = u16_at(report, 14) as usize;
+    let t = u16_at(report, 44) as usize;
+    (k <= 100) & (t <= 200) & (report.len() == 50 + 16 * k + t)
+}
+
+fn part_marked(report: &[u8], i: u16) -> bool
+    ensures { λ r. ⌜ r ≡ partMarked (now (report .entry)) i ⌝ }
+{
+    let at = 48 + 16 * (i as usize);
+    (u16_at(report, at) == 0x4B50) & (u16_at(report, at + 2) == 0)
+}
+
+fn parts_marked(report: &[u8], k: u16) -> bool
+    ensures { λ r. ⌜ r ≡ partsMarked (now (report .entry)) k ⌝ }
+{
+    let mut ok = true;
+    for i in 0..k {
+        ok = ok & part_marked(report, i);
+    }
+    ok
+}
+
+fn marks_fit(report: &[u8]) -> bool
+    ensures { λ r. ⌜ r ≡ marked (now (report .entry)) ⌝ }
+{
+    let k = u16_at(report, 14);
+    let text_at = 48 + 16 * (k as usize);
+    (u16_at(report, 0) == 0x5052)
+        & (u16_at(report, 46) == 0)
+        & parts_marked(report, k)
+        & (u16_at(report, text_at) == 0x5854)
+}
+
+// Question 2.
+pub fn is_whole(report: &[u8]) -> bool
+    ensures { λ r. ⌜ r ≡ whole (now (report .entry)) ⌝ }
+{
+    if sizes_fit(report) {
+        marks_fit(report)
+    } else {
+        false
+    }
+}
+
+fn part_fits(p: Part, period: Period) -> bool
+    ensures { λ r. ⌜ r ≡ fits p period ⌝ }
+{
+    (p.period.start.0 == period.start.0)
+        & (p.period.start.0 < p.period.end.0)
+        & (p.period.end.0 <= period.end.0)
+}
+
+// The part at `next` fits, and the remaining parts cover what remains of the period.
+fn parts_from_cover(report: &[u8], next: u16, remaining: u16, period: Period) -> bool
+    requires { ⌜ next + remaining ≤ 65535 ⌝ }
+    ensures { λ r. ⌜ r ≡ covers (series (partAt (now (report .entry))) next remaining) period ⌝ }
+{
+    if remaining == 0 {
+        return period.start.0 == period.end.0;
+    }
+    let p = part_at(report, next);
+    if part_fits(p, period) {
+        let start = p.period.end;
+        let end = period.end;
+        parts_from_cover(report, next + 1, remaining - 1, Period { start, end })
+    } else {
+        false
+    }
+}
+
+// Question 8 for types 2 to 4.
+pub fn parts_cover(report: &[u8], period: Period) -> bool
+    ensures { λ r. ⌜ r ≡ partsCover (now (report .entry)) period ⌝ }
+{
+    let k = u16_at(report, 14);
+    if (1 <= k) & (k <= 100) {
+        parts_from_cover(report, 0, k, period)
+    } else {
+        false
+    }
+}
+
+// The report's text, or the standing remark where it has none; of a report that is not whole, nothing.
+pub fn remark<'a>(report: &'a [u8], standing: &'a [u8], number: &mut u8) -> &'a [u8]
+    ensures { λ r. ⌜ now r ≡ remarkOf (now (report .entry)) (now (standing .entry)) ⌝ }
+    ensures { λ _. ⌜ now (number .exit) ≡ remarkNumber (now (report .entry)) ⌝ }
+{
+    if is_whole(report) {
+        *number = 0;
+        let t = u16_at(report, 44) as usize;
+        if t == 0 {
+            return standing;
+        }
+        let a = 50 + 16 * (u16_at(report, 14) as usize);
+        let e = a + t;
+        return &report[a..e];
+    }
+    *number = 2;
+    &report[0..0]
+}
