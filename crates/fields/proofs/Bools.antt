@@ -5,7 +5,8 @@ use mathlib.Core.Logic.{_⊎_, inl, inr}
 use Prim.Native.Nat.{ℕ, _<_, _≤_}
 use lib.Dec.{ltb}
 use borrow.Author.Tests.{ltb-true, ltb-false}
-use Rattle.fields.specs.Lists.{pick}
+use mathlib.Core.List.{List, [], _∷_}
+use Rattle.fields.specs.Lists.{pick, and-each, every}
 
 pub and-left : (a b : Bool) → (a && b) ≡ true → a ≡ true
 and-left true b e = refl
@@ -43,3 +44,30 @@ lt-or-le a b = by-case (ltb a b) refl where
   by-case : (t : Bool) → ltb a b ≡ t → (a < b) ⊎ (b ≤ a)
   by-case true e = inl (ltb-true a b e)
   by-case false e = inr (ltb-false a b e)
+
+-- the tests of a list that all hold, as facts
+abbrev pub Every : List Bool → Type 0
+Every [] = Unit {0}
+Every (t ∷ ts) = (t ≡ true) × Every ts
+
+each-true : (a : Bool) (ts : List Bool) → and-each a ts ≡ true → (a ≡ true) × Every ts
+unfolding and-each
+each-true a [] e = (e, tt)
+each-true a (t ∷ ts) e =
+    let r = each-true (a && t) ts e in
+    (and-left a t (r .0), (and-right a t (r .0), r .1))
+
+pub every-true : (ts : List Bool) → every ts ≡ true → Every ts
+unfolding every
+every-true [] e = tt
+every-true (t ∷ ts) e = each-true t ts e
+
+each-intro : (a : Bool) (ts : List Bool) → a ≡ true → Every ts → and-each a ts ≡ true
+unfolding and-each
+each-intro a [] e h = e
+each-intro a (t ∷ ts) e h = each-intro (a && t) ts (and-both e (h .0)) (h .1)
+
+pub every-intro : (ts : List Bool) → Every ts → every ts ≡ true
+unfolding every
+every-intro [] h = refl
+every-intro (t ∷ ts) h = each-intro t ts (h .0) (h .1)

@@ -7,7 +7,8 @@ use native.Mathlib.Nat.{add-zero, pow-suc, mod-mod, div-lt-iff-lt-mul, div-div-e
 use native.Mathlib.Numerals.{add-one}
 use lib.Dec.{lit<}
 use lib.Pow.{field}
-use lib.ListN.{length, getD, List·getD-eq-default}
+use lib.ListN.{length, getD, drop, List·getD-append, List·getD-eq-default}
+use lib.Seq.{getD-drop}
 use Rattle.fields.specs.Lists.{put}
 use Rattle.fields.specs.Fields.{u8At, uintAt, bytesOf}
 use Rattle.fields.proofs.Stretches.{Same, put-inside, put-append}
@@ -24,10 +25,10 @@ uint-past (suc n) s at h = omega (arith, List·getD-eq-default s 0 h, uint-past 
 
 -- reading depends on the bytes read alone
 pub uint-same : (n : ℕ) (a b : List ℕ) (at : ℕ) → Same a b at (at + n) → uintAt n a at ≡ uintAt n b at
-unfolding uintAt Same
+unfolding uintAt
 uint-same zero a b at h = refl
 uint-same (suc n) a b at h =
-    omega (arith, h at (omega arith) (omega arith), uint-same n a b (at + 1) (λ i l r. h i (omega arith) (omega arith)))
+    omega (arith, h .at at (omega arith) (omega arith), uint-same n a b (at + 1) (record { at = λ i l r. h .at i (omega arith) (omega arith) }))
 
 -- the number whose bytes these are
 unfoldable value : List ℕ → ℕ
@@ -55,6 +56,16 @@ uint-put n s at v fits small =
     let h : at + length (bytesOf n v) ≤ length s = omega arith in
     ap (λ (k : ℕ). uintAt k (put s at (bytesOf n v)) at) (sym e)
     ∙ value-read (bytesOf n v) (put s at (bytesOf n v)) at (put-inside s at (bytesOf n v) h)
+    ∙ value-bytes n v small
+
+-- a number read where its bytes stand
+pub uint-found : (n : ℕ) (s : List ℕ) (at v : ℕ) (rest : List ℕ) → drop at s ≡ bytesOf n v ++ rest → v < 256 ^ n → uintAt n s at ≡ v
+uint-found n s at v rest e small =
+    let l = bytes-length n v in
+    ap (λ (k : ℕ). uintAt k s at) (sym l)
+    ∙ value-read (bytesOf n v) s at
+    (λ i h.
+    sym (getD-drop at s i 0) ∙ ap (λ (t : List ℕ). getD t i 0) e ∙ List·getD-append (bytesOf n v) rest 0 i h)
     ∙ value-bytes n v small
 
 -- two bytes put one by one

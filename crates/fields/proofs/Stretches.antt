@@ -5,14 +5,30 @@ use mathlib.Core.List.{List, [], _∷_, _++_, append-assoc}
 use native.Mathlib.Omega.{arith}
 use native.Mathlib.Nat.{add-zero, add-suc, suc-add, le-of-suc-le-suc, not-suc-le-zero}
 use native.Mathlib.Numerals.{add-one}
-use lib.ListN.{length, getD, set, take, drop, replicate, length-set, length-drop, length-take, List·getD-eq-default}
-use lib.Seq.{length-sets, sets-eq, set-out, getD-set-other, length-take-le, getD-take, getD-drop, drop-drop, drop-at, take-at, ext-getD, take-suc-set, take-all}
+use lib.ListN.{length, getD, set, take, drop, replicate, length-set, length-drop, length-take, take-append-drop, List·getD-append, List·getD-eq-default}
+use lib.Seq.{length-sets, sets-eq, set-out, getD-set-other, length-take-le, getD-take, getD-drop, drop-drop, drop-at, take-at, ext-getD, take-suc-set, take-all, take-append-le, drop-append-le}
 use Rattle.fields.specs.Lists.{series, part, put}
 use Rattle.fields.specs.Fields.{u8At}
 
 -- a and b have the same elements from lo up to hi
-unfoldable pub Same : List ℕ → List ℕ → ℕ → ℕ → Type 0
-Same a b lo hi = (i : ℕ) → lo ≤ i → i < hi → getD a i 0 ≡ getD b i 0
+pub record Same (a b : List ℕ) (lo hi : ℕ) : Type 0 where
+  pub at : (i : ℕ) → lo ≤ i → i < hi → getD a i 0 ≡ getD b i 0
+
+pub same-trans : {a b c : List ℕ} {lo hi : ℕ} → Same a b lo hi → Same b c lo hi → Same a c lo hi
+same-trans p q = record { at = λ i l r. p .at i l r ∙ q .at i l r }
+
+pub same-self : {a : List ℕ} {lo hi : ℕ} → Same a a lo hi
+same-self = record { at = λ i l r. refl }
+
+pub same-within : {a b : List ℕ} {lo hi : ℕ} → Same a b lo hi → (l h : ℕ) → lo ≤ l → h ≤ hi → Same a b l h
+same-within p l h x y = record { at = λ i a b. p .at i (omega arith) (omega arith) }
+
+pub same-append : (xs ys : List ℕ) (lo hi : ℕ) → hi ≤ length xs → Same (xs ++ ys) xs lo hi
+same-append xs ys lo hi h = record { at = λ i l r. List·getD-append xs ys 0 i (omega arith) }
+
+pub same-part : (s : List ℕ) (n lo hi : ℕ) → hi ≤ n → Same (part s 0 n) s lo hi
+unfolding part
+same-part s n lo hi h = record { at = λ i l r. getD-take n s i 0 (omega arith) }
 
 pub put-length : (s : List ℕ) (at : ℕ) (vs : List ℕ) → length (put s at vs) ≡ length s
 unfolding put
@@ -42,25 +58,27 @@ put-more vs s at v = sym (put-append vs (v ∷ []) s at)
 
 -- what lies below what was put, above it and in it
 pub put-below : (vs s : List ℕ) (at lo hi : ℕ) → hi ≤ at → Same (put s at vs) s lo hi
-unfolding put Same
-put-below [] s at lo hi h i l r = refl
-put-below (v ∷ vs) s at lo hi h i l r =
-    put-below vs (set s at v) (suc at) lo hi (omega arith) i l r ∙ getD-set-other s at i v 0 (λ e. omega arith)
+unfolding put
+put-below [] s at lo hi h = same-self
+put-below (v ∷ vs) s at lo hi h =
+    same-trans (put-below vs (set s at v) (suc at) lo hi (omega arith))
+    (record { at = λ i l r. getD-set-other s at i v 0 (λ e. omega arith) })
 
 pub put-above : (vs s : List ℕ) (at lo hi : ℕ) → at + length vs ≤ lo → Same (put s at vs) s lo hi
-unfolding put Same
-put-above [] s at lo hi h i l r = refl
-put-above (v ∷ vs) s at lo hi h i l r =
-    put-above vs (set s at v) (suc at) lo hi (omega arith) i l r ∙ getD-set-other s at i v 0 (λ e. omega arith)
+unfolding put
+put-above [] s at lo hi h = same-self
+put-above (v ∷ vs) s at lo hi h =
+    same-trans (put-above vs (set s at v) (suc at) lo hi (omega arith))
+    (record { at = λ i l r. getD-set-other s at i v 0 (λ e. omega arith) })
 
 -- parts of lists that agree there are equal
 pub part-same : (a b : List ℕ) (at n : ℕ) → length a ≡ length b → Same a b at (at + n) → part a at n ≡ part b at n
-unfolding part Same
+unfolding part
 part-same a b at n e h =
     ext-getD 0 (take n (drop at a)) (take n (drop at b)) (simp (length-take, length-drop, e))
     (λ i l.
     let k : i < n = omega (arith, simp length-take at l) in
-    getD-take n (drop at a) i 0 k ∙ getD-drop at a i 0 ∙ h (at + i) (omega arith) (omega arith)
+    getD-take n (drop at a) i 0 k ∙ getD-drop at a i 0 ∙ h .at (at + i) (omega arith) (omega arith)
     ∙ sym (getD-take n (drop at b) i 0 k ∙ getD-drop at b i 0))
 
 pub part-length : (s : List ℕ) (at n : ℕ) → at + n ≤ length s → length (part s at n) ≡ n
@@ -70,6 +88,24 @@ part-length s at n h = length-take-le n (drop at s) (simp length-drop (omega ari
 pub part-at : (s : List ℕ) (at n i : ℕ) → i < n → getD (part s at n) i 0 ≡ getD s (at + i) 0
 unfolding part
 part-at s at n i h = getD-take n (drop at s) i 0 h ∙ getD-drop at s i 0
+
+-- a part of two lists one after the other
+pub part-after : (xs ys : List ℕ) (n at k : ℕ) → length xs ≡ n → part (xs ++ ys) (n + at) k ≡ part ys at k
+unfolding part
+part-after xs ys n at k e = rw (← drop-drop at n (xs ++ ys), drop-at xs ys n e)
+
+pub part-before : (xs ys : List ℕ) (at k : ℕ) → at + k ≤ length xs → part (xs ++ ys) at k ≡ part xs at k
+unfolding part
+part-before xs ys at k h =
+    rw (drop-append-le at xs ys (omega arith)) (take-append-le k (drop at xs) ys (simp length-drop (omega arith)))
+
+-- a part that is put back
+pub put-part : (s : List ℕ) (at n : ℕ) → at + n ≤ length s → put s at (part s at n) ≡ s
+unfolding put part
+put-part s at n h =
+    let m : length (take n (drop at s)) ≡ n = length-take-le n (drop at s) (simp length-drop (omega arith)) in
+    rw (sets-eq (take n (drop at s)) s at (omega arith), m, append-assoc (take at s), ← drop-drop n at s, take-append-drop n (drop at s))
+    (take-append-drop at s)
 
 module _ (s : List ℕ) (at : ℕ) (vs : List ℕ) (fits : at + length vs ≤ length s) where
   front : length (take at s) ≡ at

@@ -9,7 +9,7 @@ use lib.Dec.{eqb}
 use lib.ListN.{length, getD}
 use borrow.Author.Tests.{eqb-true, eqb-false}
 use Rattle.fields.specs.Lists.{pick, all, series, seek}
-use Rattle.fields.proofs.Bools.{and-left, and-right}
+use Rattle.fields.proofs.Bools.{and-left, and-right, pick-elim}
 
 module _ {A : Type 0} where
   pub series-length : (f : ℕ → A) (i n : ℕ) → length (series f i n) ≡ n
@@ -96,3 +96,32 @@ unfolding seek
 seek-end p i n e =
     let k : n - i ≡ 0 = omega arith in
     rw k e
+
+-- what was found passes, and where nothing was found nothing does
+pub seek-most : (p : ℕ → Bool) (i n : ℕ) → seek p i n ≤ i + n
+unfolding seek
+seek-most p i zero = omega arith
+seek-most p i (suc n) =
+    let rest = seek-most p (i + 1) n in
+    pick-elim (λ (k : ℕ). k ≤ i + suc n) (p i) (λ e. omega arith) (λ e. omega arith)
+
+pub seek-found : (p : ℕ → Bool) (i n : ℕ) → seek p i n < i + n → p (seek p i n) ≡ true
+unfolding seek
+seek-found p i zero = λ h. absurd (omega arith)
+seek-found p i (suc n) =
+    let rest = seek-found p (i + 1) n in
+    pick-elim (λ (k : ℕ). k < i + suc n → p k ≡ true) (p i) (λ e h. e) (λ e h. rest (omega arith))
+
+pub seek-none : (p : ℕ → Bool) (i n j : ℕ) → i + n ≤ seek p i n → i ≤ j → j < i + n → p j ≡ false
+unfolding seek pick
+seek-none p i zero j h a b = absurd (omega arith)
+seek-none p i (suc n) j h a b = by-case (p i) refl (seek-none p (i + 1) n j) h where
+  by-case : (t : Bool) → p i ≡ t → (i + 1 + n ≤ seek p (i + 1) n → i + 1 ≤ j → j < i + 1 + n → p j ≡ false) → i + suc n ≤ pick t i (seek p (i + 1) n) → p j ≡ false
+  by-case true e rest h = absurd (omega arith)
+  by-case false e rest h = at-first (eqb i j) refl
+    where
+      at-first : (t : Bool) → eqb i j ≡ t → p j ≡ false
+      at-first true q = rw (eqb-true i j q) at e
+      at-first false q =
+          let ne = eqb-false i j q in
+          rest (omega arith) (omega arith) (omega arith)

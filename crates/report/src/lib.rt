@@ -6,7 +6,7 @@ use quantities::SignedKilowatt;
 ghost use mathlib.Core.Path.{_≡_};
 ghost use Prim.Native.Nat.{_+_, _≤_};
 ghost use Rattle.fields.specs.Lists.{series};
-ghost use Rattle.report.specs.Report.{headOf, partAt, sized, partMarked, partsMarked, marked, whole};
+ghost use Rattle.report.specs.Report.{headOf, partAt, partsOf, sized, partMarked, partsMarked, marked, whole};
 ghost use Rattle.report.specs.Cover.{fits, rest, covers, partsCover};
 ghost use Rattle.report.specs.Remark.{remarkNumber, remarkOf};
 
@@ -142,7 +142,7 @@ fn parts_from_cover(report: &[u8], next: u16, remaining: u16, period: Period) ->
 
 // Question 8 for types 2 to 4.
 pub fn parts_cover(report: &[u8], period: Period) -> bool
-    ensures { λ r. ⌜ r ≡ partsCover (now (report .entry)) period ⌝ }
+    ensures { λ r. ⌜ r ≡ partsCover (partsOf (now (report .entry))) period ⌝ }
 {
     let k = u16_at(report, 14);
     if (1 <= k) & (k <= 100) {

@@ -1,0 +1,4 @@
+pub mod Slots
+pub mod Passed
+pub mod Holding
+pub mod Heads

@@ -1,0 +1,68 @@
+//! "Accepted (0)": the block afterwards.
+
+use crate::codes::{Operation, RecordType};
+use crate::questions::{lowest_free_slot, row_after, Case};
+use crate::register::{put_last_stamp, put_row, slot_bytes, write_slot, SLOT_COUNT};
+use crate::report::Report;
+use crate::unit::Row;
+
+/// What an accepted report does to its unit's block.
+pub struct Outcome<'r> {
+    /// The report.
+    pub report: Report<'r>,
+    /// A state change's row.
+    pub row: Option<Row>,
+    /// Live slots that the report makes leave.
+    pub leaving: [bool; SLOT_COUNT],
+    /// Slots that are not live at the report's stamp.
+    pub dead: [bool; SLOT_COUNT],
+    /// The slot created, changed or withdrawn; None for an event.
+    pub slot: Option<usize>,
+}
+
+impl<'r> Outcome<'r> {
+    /// The outcome of a case to which every question said yes.
+    pub fn of(case: &Case<'_, 'r>) -> Outcome<'r> {
+        let record = &case.report.record;
+        let row = if case.changes_state() {
+            row_after(case.unit.row, record)
+        } else {
+            None
+        };
+        let slot = match (case.report.operation, record.record_type) {
+            (_, RecordType::Event) => None,
+            (Operation::Create, _) => lowest_free_slot(case),
+            (Operation::Update | Operation::Withdraw, _) => case.named_slot(),
+        };
+        Outcome {
+            report: case.report,
+            row,
+            leaving: case.leaving(),
+            dead: case.live.map(|record| record.is_none()),
+            slot,
+        }
+    }
+
+    /// "last stamp becomes the stamp; dead and closed slots become zeros; a state change sets
+    /// state, qualification and since, and every other live begun stop or off-grid record of the
+    /// unit leaves; a withdrawn slot becomes zeros, a change rewrites its slot, a creation takes
+    /// the lowest free one".
+    pub fn write(&self, block: &mut [u8]) {
+        put_last_stamp(block, self.report.record.stamp);
+        if let Some(row) = self.row {
+            put_row(block, row);
+        }
+        for slot in 0..SLOT_COUNT {
+            if self.dead[slot] || self.leaving[slot] {
+                slot_bytes(block, slot).fill(0);
+            }
+        }
+        if let Some(slot) = self.slot {
+            let bytes = slot_bytes(block, slot);
+            match self.report.operation {
+                Operation::Withdraw => bytes.fill(0),
+                Operation::Create | Operation::Update => write_slot(bytes, &self.report.record),
+            }
+        }
+    }
+}

@@ -1,0 +1,229 @@
+//! The report: head, parts, text; question 2.
+
+use crate::codes::{Direction, Operation, RecordType, StartMark};
+use crate::fields::{all_zero, i32_at, u16_at, u32_at};
+use crate::quantities::{Minute, Period};
+use crate::record::{PartLayout, Parts, Record, MAX_PARTS, MRID_SIZE};
+use std::ops::RangeInclusive;
+
+/// Bytes of the head.
+pub const HEAD_SIZE: usize = 48;
+/// Bytes of a part.
+pub const PART_SIZE: usize = 16;
+/// The most bytes of text.
+pub const MAX_TEXT: usize = 200;
+/// The mark of a report.
+pub const REPORT_MARK: [u8; 2] = [0x52, 0x50];
+/// The mark of a part.
+pub const PART_MARK: [u8; 2] = [0x50, 0x4B];
+/// The mark before the text.
+pub const TEXT_MARK: [u8; 2] = [0x54, 0x58];
+
+/// The ordinals a report may have.
+pub const REVISIONS: RangeInclusive<u16> = 1..=9_999;
+
+/// Offsets in the head.
+pub mod head {
+    /// u16.
+    pub const UNIT: usize = 2;
+    /// u16.
+    pub const OWNER: usize = 4;
+    /// u8.
+    pub const TYPE: usize = 6;
+    /// u8.
+    pub const OPERATION: usize = 7;
+    /// u8.
+    pub const DIRECTION: usize = 8;
+    /// u8.
+    pub const START_MARK: usize = 9;
+    /// u8.
+    pub const END_MARK: usize = 10;
+    /// u8.
+    pub const QUALIFICATION: usize = 11;
+    /// Ordinal, u16.
+    pub const REVISION: usize = 12;
+    /// Number of parts k, u16.
+    pub const PART_COUNT: usize = 14;
+    /// Identifier, 16 bytes.
+    pub const MRID: usize = 16;
+    /// u32.
+    pub const STAMP: usize = 32;
+    /// u32.
+    pub const START: usize = 36;
+    /// u32.
+    pub const END: usize = 40;
+    /// Text length t, u16.
+    pub const TEXT_LENGTH: usize = 44;
+    /// u16.
+    pub const ZERO: usize = 46;
+}
+
+/// Offsets in a part.
+pub mod part {
+    /// u16.
+    pub const ZERO: usize = 2;
+    /// u32.
+    pub const START: usize = 4;
+    /// u32.
+    pub const END: usize = 8;
+    /// Signed kW, i32.
+    pub const POWER: usize = 12;
+}
+
+/// A report's parts, read as those of a record.
+pub const REPORT_PARTS: PartLayout = PartLayout {
+    size: PART_SIZE,
+    end: part::END,
+    power: part::POWER,
+};
+
+/// A report that is whole; its fields may be out of range.
+#[derive(Clone, Copy, Debug)]
+pub struct WholeReport<'a> {
+    bytes: &'a [u8],
+}
+
+/// A part as the report states it.
+#[derive(Clone, Copy, Debug)]
+pub struct StatedPart {
+    /// Start, a count.
+    pub start: u32,
+    /// End, a count.
+    pub end: u32,
+    /// Signed kW.
+    pub power: i32,
+}
+
+/// A report whose fields are in range (question 4).
+#[derive(Clone, Copy, Debug)]
+pub struct Report<'a> {
+    /// Create, change, withdraw.
+    pub operation: Operation,
+    /// The rest; an event's record has no parts and stands in no slot.
+    pub record: Record<'a>,
+    /// The report it was read from.
+    pub stated: WholeReport<'a>,
+}
+
+/// "Length 50 + 16k + t", once the head is there to give k and t.
+pub fn stated_length(bytes: &[u8]) -> Option<usize> {
+    let head = bytes.get(..HEAD_SIZE)?;
+    let parts = usize::from(u16_at(head, head::PART_COUNT));
+    let text = usize::from(u16_at(head, head::TEXT_LENGTH));
+    Some(HEAD_SIZE + parts * PART_SIZE + TEXT_MARK.len() + text)
+}
+
+/// "Is the report whole: length, two-byte marks, zeros, k ≤ 100, t ≤ 200?"
+pub fn question_2_report_whole(bytes: &[u8]) -> Option<WholeReport<'_>> {
+    let length_fits = stated_length(bytes) == Some(bytes.len());
+    if !length_fits {
+        return None;
+    }
+    let report = WholeReport { bytes };
+    let counts_fit = report.part_count() <= MAX_PARTS && report.text_length() <= MAX_TEXT;
+    let marks_and_zeros = bytes.starts_with(&REPORT_MARK)
+        && all_zero(&bytes[head::ZERO..HEAD_SIZE])
+        && report
+            .part_bytes()
+            .chunks(PART_SIZE)
+            .all(|part| part.starts_with(&PART_MARK) && all_zero(&part[part::ZERO..part::START]))
+        && bytes[report.parts_end()..].starts_with(&TEXT_MARK);
+    (counts_fit && marks_and_zeros).then_some(report)
+}
+
+impl<'a> WholeReport<'a> {
+    /// A field of one byte as it stands.
+    pub fn byte(&self, at: usize) -> u8 {
+        self.bytes[at]
+    }
+
+    fn part_count(&self) -> usize {
+        usize::from(u16_at(self.bytes, head::PART_COUNT))
+    }
+
+    fn text_length(&self) -> usize {
+        usize::from(u16_at(self.bytes, head::TEXT_LENGTH))
+    }
+
+    fn parts_end(&self) -> usize {
+        HEAD_SIZE + self.part_count() * PART_SIZE
+    }
+
+    fn part_bytes(&self) -> &'a [u8] {
+        &self.bytes[HEAD_SIZE..self.parts_end()]
+    }
+
+    /// All of it.
+    pub fn bytes(&self) -> &'a [u8] {
+        self.bytes
+    }
+
+    /// The unit's number as it stands.
+    pub fn unit(&self) -> u16 {
+        u16_at(self.bytes, head::UNIT)
+    }
+
+    /// The owner's number as it stands.
+    pub fn owner(&self) -> u16 {
+        u16_at(self.bytes, head::OWNER)
+    }
+
+    /// The stamp as it stands.
+    pub fn stamp(&self) -> u32 {
+        u32_at(self.bytes, head::STAMP)
+    }
+
+    /// The text.
+    pub fn text(&self) -> &'a [u8] {
+        &self.bytes[self.parts_end() + TEXT_MARK.len()..]
+    }
+
+    /// The parts as they stand.
+    pub fn parts(&self) -> impl Iterator<Item = StatedPart> + 'a {
+        self.part_bytes()
+            .chunks_exact(PART_SIZE)
+            .map(|bytes| StatedPart {
+                start: u32_at(bytes, part::START),
+                end: u32_at(bytes, part::END),
+                power: i32_at(bytes, part::POWER),
+            })
+    }
+
+    fn time(&self, at: usize) -> Option<Minute> {
+        Minute::from_count(u32_at(self.bytes, at))
+    }
+
+    fn mrid(&self) -> [u8; MRID_SIZE] {
+        let mut mrid = [0; MRID_SIZE];
+        mrid.copy_from_slice(&self.bytes[head::MRID..head::MRID + MRID_SIZE]);
+        mrid
+    }
+
+    /// "times (parts' too)".
+    pub fn part_times_in_range(&self) -> bool {
+        self.parts().all(|part| {
+            Minute::from_count(part.start).is_some() && Minute::from_count(part.end).is_some()
+        })
+    }
+
+    /// The record that the fields give, if each is in its own range.
+    pub fn record(&self) -> Option<Record<'a>> {
+        let record_type = RecordType::from_code(self.byte(head::TYPE))?;
+        Some(Record {
+            record_type,
+            direction: Direction::from_code(self.byte(head::DIRECTION))?,
+            qualification: Some(self.byte(head::QUALIFICATION))
+                .filter(|&code| record_type.allows_qualification(code))?,
+            start_mark: StartMark::from_code(self.byte(head::START_MARK))?,
+            revision: Some(u16_at(self.bytes, head::REVISION))
+                .filter(|revision| REVISIONS.contains(revision))?,
+            mrid: self.mrid(),
+            stamp: self.time(head::STAMP)?,
+            period: Period {
+                start: self.time(head::START)?,
+                end: self.time(head::END)?,
+            },
+            parts: Parts::new(self.part_bytes(), &REPORT_PARTS),
+        })
+    }
+}
