@@ -95,3 +95,22 @@ starred =
     ∷ case (begunStop 1 1 5 ∷ begunStop 2 2 8 ∷ []) (is 0 0 ∷ is 0 8 ∷ [])
     ∷ case (levelled forcedWork 200001 1 60 120 ∷ []) (is 0 2 ∷ [])
     ∷ []
+
+-- "Bench findings to rule out", and question 15's "started earlier"
+abbrev pub derating : ℕ → ℕ → ℕ → ℕ → List SentPart → List ℕ
+derating place stamp start end parts = reportBytes 1 7 positiveDerating create planned 0 1 place stamp start end parts
+
+abbrev pub findings : List Case
+findings =
+    case (reportBytes 3 7 positiveDerating create planned 0 1 1 10 60 120 (sentPart 60 120 20000 ∷ []) ∷ []) (is 3 0 ∷ [])
+    ∷ case
+    (derating 1 10 60 120 (sentPart 60 90 20000 ∷ sentPart 90 120 50000 ∷ []) ∷ levelled forcedWork 160000 2 60 120 ∷ [])
+    (is 0 0 ∷ is 17 0 ∷ [])
+    ∷ case
+    (derating 1 10 60 75 (sentPart 60 75 20000 ∷ []) ∷ derating 1 75 90 120 (sentPart 90 120 20000 ∷ []) ∷ [])
+    (is 0 0 ∷ is 0 0 ∷ [])
+    ∷ case
+    (derating 1 30 61 120 (sentPart 61 120 20000 ∷ []) ∷ derating 1 20 60 120 (sentPart 60 120 20000 ∷ []) ∷ [])
+    (is 7 0 ∷ is 0 0 ∷ [])
+    ∷ case (begunStop 1 1 5 ∷ begunStop 2 2 5 ∷ []) (is 0 0 ∷ is 15 0 ∷ [])
+    ∷ []
