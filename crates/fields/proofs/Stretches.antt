@@ -140,23 +140,24 @@ lent-back f s at n vs h l e =
     rw (k, g, sets-eq vs s at (omega arith), append-assoc (take at s) vs (drop (at + length vs) s), drop-drop n at s, m)
 
 -- a loop that fills an array: none yet, one more, and all
-pub filled-none : (f : ℕ → ℕ) (at : ℕ) → [] ≡ series f at 0
-unfolding series
-filled-none f at = refl
+module _ {A : Type 0} where
+  pub filled-none : (f : ℕ → A) (at : ℕ) → [] ≡ series f at 0
+  unfolding series
+  filled-none f at = refl
 
-pub series-snoc : (f : ℕ → ℕ) (at n : ℕ) → series f at (n + 1) ≡ series f at n ++ (f (at + n) ∷ [])
-unfolding series
-series-snoc f at zero = rw add-zero
-series-snoc f at (suc n) =
-    let e : suc n + 1 ≡ suc (n + 1) = omega arith in
-    let k : at + suc n ≡ at + 1 + n = omega arith in
-    rw (e, k, series-snoc f (at + 1) n)
+  pub series-snoc : (f : ℕ → A) (at n : ℕ) → series f at (n + 1) ≡ series f at n ++ (f (at + n) ∷ [])
+  unfolding series
+  series-snoc f at zero = rw add-zero
+  series-snoc f at (suc n) =
+      let e : suc n + 1 ≡ suc (n + 1) = omega arith in
+      let k : at + suc n ≡ at + 1 + n = omega arith in
+      rw (e, k, series-snoc f (at + 1) n)
 
-pub filled-more : (f : ℕ → ℕ) (d : List ℕ) (at j : ℕ) {v : ℕ} → take j d ≡ series f at j → j < length d → v ≡ f (at + j) → take (j + 1) (set d j v) ≡ series f at (j + 1)
-filled-more f d at j {v} e l q = rw (add-one j, take-suc-set d j v l, ← add-one j, series-snoc f at j, e, q)
+  pub filled-more : (f : ℕ → A) (d : List A) (at j : ℕ) {v : A} → take j d ≡ series f at j → j < length d → v ≡ f (at + j) → take (j + 1) (set d j v) ≡ series f at (j + 1)
+  filled-more f d at j {v} e l q = rw (add-one j, take-suc-set d j v l, ← add-one j, series-snoc f at j, e, q)
 
-pub filled-all : (d p : List ℕ) (n : ℕ) → length d ≡ n → take n d ≡ p → d ≡ p
-filled-all d p n e q = sym (take-all n d (omega arith)) ∙ q
+  pub filled-all : (d p : List A) (n : ℕ) → length d ≡ n → take n d ≡ p → d ≡ p
+  filled-all d p n e q = sym (take-all n d (omega arith)) ∙ q
 
 -- past the end every byte is 0
 pub series-past : (s : List ℕ) (at n : ℕ) → length s ≤ at → series (u8At s) at n ≡ replicate n 0

@@ -12,7 +12,7 @@ use Rattle.report.specs.Cover.{covers, partsCover}
 use Rattle.rules.specs.Records.{qualificationInRange, fieldsInRange, carried, partsFit, powersInRange, sameIdentifier, clashes, closes}
 use Rattle.rules.specs.Roster.{rowInRange, powersInOrder, entryGood, piecesPass, rosterGood}
 use Rattle.rules.specs.Block.{zeros, zerosAt, headBytes, freshBlock, slotAt, pairsFrom}
-use Rattle.rules.specs.Questions.{identifierZero, question4, question6, question7, question8, live, holder, question13, question14, other, question15, deratingFits, question16, begins, changesState, eventLeadsTo, leadsTo, reasonAfter, question18, leaves, stays, freeSlot}
+use Rattle.rules.specs.Questions.{identifierZero, question4, fieldsPass, question6, timesHonest, question7, onQuarters, question8, partsPass, live, holder, question13, question14, other, question15, deratingFits, question16, begins, changesState, eventLeadsTo, leadsTo, reasonAfter, question18, leaves, stays, freeSlot}
 use Rattle.rules.specs.Minutes.{levelIn, levelOf, levelAmong, worksAmong, reportedWorks, blockWorks, levelsAt, levelsFit, aboveMax, belowMin, levelsEvery, levelsSome, question17}
 use Rattle.rules.specs.After.{putRow, headAfter, pairBytes, slotBytes, slotWritten, slotAfter, blockAfter, someSlot, warnsOverlap, warnsMinute, warnsLeft, warnings}
 use Rattle.rules.specs.Judge.{formNumber, recordNumber, limitNumber, refusalNumber, judge}
@@ -22,7 +22,7 @@ use Rattle.rules.specs.Cases.{Case, rosterA, partBytes, reportBytes, sam
 
 -- opens every definition that a page computes with
 unfoldable computed : Unit {0}
-unfolding pick and-each every all series seek joined part put uintAt bytesOf sized marked whole covers partsCover qualificationInRange fieldsInRange carried partsFit powersInRange sameIdentifier clashes closes rowInRange powersInOrder entryGood piecesPass zeros zerosAt headBytes freshBlock slotAt pairsFrom identifierZero question4 question6 question7 question8 live holder question13 question14 other question15 deratingFits question16 begins changesState eventLeadsTo leadsTo reasonAfter question18 leaves stays freeSlot levelIn levelOf levelAmong worksAmong reportedWorks blockWorks levelsAt levelsFit aboveMax belowMin levelsEvery levelsSome question17 putRow headAfter pairBytes slotBytes slotWritten slotAfter blockAfter someSlot warnsOverlap warnsMinute warnsLeft warnings formNumber recordNumber limitNumber refusalNumber judge isOwn pageStep pageFrom isSomeones answerAlone answersAlone rosterA partBytes reportBytes sameAnswers
+unfolding pick and-each every all series seek joined part put uintAt bytesOf sized marked whole covers partsCover qualificationInRange fieldsInRange carried partsFit powersInRange sameIdentifier clashes closes rowInRange powersInOrder entryGood piecesPass zeros zerosAt headBytes freshBlock slotAt pairsFrom identifierZero fieldsPass timesHonest onQuarters partsPass live holder question13 question14 other question15 deratingFits question16 begins changesState eventLeadsTo leadsTo reasonAfter question18 leaves stays freeSlot levelIn levelOf levelAmong worksAmong reportedWorks blockWorks levelsAt levelsFit aboveMax belowMin levelsEvery levelsSome question17 putRow headAfter pairBytes slotBytes slotWritten slotAfter blockAfter someSlot warnsOverlap warnsMinute warnsLeft warnings formNumber recordNumber limitNumber refusalNumber judge isOwn pageStep pageFrom isSomeones answerAlone answersAlone rosterA partBytes reportBytes sameAnswers
 computed = tt
 
 good : rosterGood rosterA ≡ true

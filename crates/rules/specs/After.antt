@@ -9,13 +9,14 @@ use Rattle.fields.specs.Lists.{pick, all, series, joined, part, put}
 use Rattle.quantities.specs.Quantities.{overlap}
 use Rattle.report.specs.declared.Part.{Part}
 use Rattle.report.specs.Report.{headOf, partsOf, partCount}
+use Rattle.rules.specs.declared.Levels.{Levels}
 use Rattle.rules.specs.declared.PowerRange.{PowerRange}
 use Rattle.rules.specs.declared.Record.{Record}
 use Rattle.rules.specs.declared.Row.{Row}
 use Rattle.rules.specs.Codes.{stop, forcedWork, isLevelled, change, meet}
 use Rattle.rules.specs.Block.{headSize, slotSize, slotCount, slotMark, zeros, unitHead, slotAt, used}
 use Rattle.rules.specs.Questions.{recordOf, isEvent, isWithdrawal, isOperation, isCreation, stampOf, startOf, endOf, kilowatts, rangeOf, recordAt, holder, leadsTo, reasonAfter, changesState, leaves, stays, freeSlot}
-use Rattle.rules.specs.Minutes.{Levels, blockWorks, aboveMax, belowMin, levelsSome}
+use Rattle.rules.specs.Minutes.{blockWorks, aboveMax, belowMin, levelsSome}
 
 -- "a state change sets state, qualification .. and since (the start)"
 abbrev pub rowAfter : List ℕ → List ℕ → Row

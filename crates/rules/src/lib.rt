@@ -1,10 +1,12 @@
 // Paper 01 as definitions (specs/), and the claims about them: the types that both share, and for each claim a
 // function that does nothing, whose contract is the claim, so that the check prints its name.
 ghost use mathlib.Core.Path.{_≡_};
-ghost use mathlib.Core.Bool.{false};
+ghost use mathlib.Core.Bool.{true, false};
 ghost use mathlib.Core.List.{List};
 ghost use Prim.Native.Nat.{ℕ, _≤_};
 ghost use lib.Dec.{eqb};
+ghost use Rattle.fields.specs.Lists.{all};
+ghost use Rattle.rules.specs.Cases.{right, starred, findings};
 ghost use Rattle.rules.specs.Desk.{units, setUp, answerTo, registerAfter};
 ghost use Rattle.rules.specs.Alone.{OneUnitAlone, acceptedOwn, acceptedAtDesk, Alike, AlikeIn};
 use quantities::Kilowatt;
@@ -63,6 +65,13 @@ pub struct Level {
     pub power: Kilowatt,
 }
 
+// The three levels that rule 20 compares in one minute.
+pub struct Levels {
+    pub forced: Level,
+    pub positive: Level,
+    pub negative: Level,
+}
+
 pub struct Answer {
     pub number: u8,
     pub warnings: u8,
@@ -85,4 +94,14 @@ pub fn alike_lists_leave_alike_blocks()
 // A report that is not answered with 0 leaves every register as it was.
 pub fn refusals_change_nothing()
     ensures { λ r. ⌜ ((register s : List ℕ) → eqb (answerTo register s .answer .number) 0 ≡ false → answerTo register s .after ≡ register) ⌝ }
+{}
+
+// The starred reports of paper 01 on fresh roster A get the answers that stand there.
+pub fn starred_reports_are_answered_right()
+    ensures { λ r. ⌜ all right starred ≡ true ⌝ }
+{}
+
+// So do reports that tell the bench findings, and a stop that starts with the one before it.
+pub fn bench_findings_are_ruled_out()
+    ensures { λ r. ⌜ all right findings ≡ true ⌝ }
 {}

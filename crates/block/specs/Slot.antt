@@ -1,0 +1,44 @@
+-- Question 1 of a used slot, as one pass over its pairs asks it: proofs/Pairs.antt shows that it is what paper 01 asks.
+use Prim.Native.Nat.{ℕ, zero, suc, _+_}
+use mathlib.Core.List.{List, [], _∷_}
+use mathlib.Core.Bool.{Bool, not, _&&_, _||_}
+use lib.Dec.{leb, ltb, eqb}
+use Rattle.fields.specs.Fields.{u16At, u32At}
+use Rattle.fields.specs.Lists.{every}
+use Rattle.quantities.specs.declared.Minute.{Minute}
+use Rattle.quantities.specs.Quantities.{highestPower}
+use Rattle.rules.specs.declared.Record.{Record}
+use Rattle.rules.specs.Codes.{between, stop, offGrid}
+use Rattle.rules.specs.Records.{fieldsInRange, carried, begun}
+use Rattle.rules.specs.Block.{unitMark, zerosAt, unitHead}
+use Rattle.rules.specs.Whole.{headInRange}
+
+-- the part ends rise from start to end, and every power is in range
+unfoldable pub pairsRise : List ℕ → ℕ → ℕ → ℕ → ℕ → Bool
+pairsRise z at zero start end = eqb start end
+pairsRise z at (suc n) start end =
+    (ltb start (u32At z at) && leb (u32At z (at + 4)) highestPower) && pairsRise z (at + 8) n (u32At z at) end
+
+-- what is asked of a record in a slot, but for its parts
+unfoldable pub holdsAlone : ℕ → Minute → Record → Bool
+holdsAlone kind last r =
+    every
+    (between stop offGrid (r .«record_type»)
+    ∷ fieldsInRange r []
+    ∷ carried kind r
+    ∷ (not (eqb (r .«record_type») offGrid) || begun r)
+    ∷ ltb (r .period .start .0) (r .period .end .0)
+    ∷ leb (r .stamp .0) (last .0)
+    ∷ (not (begun r) || leb (r .period .start .0) (r .stamp .0))
+    ∷ [])
+
+-- what is asked of a block's 64-byte head
+unfoldable pub headWhole : ℕ → List ℕ → Bool
+headWhole unit b =
+    every
+    (eqb (u16At b 0) unitMark
+    ∷ eqb (unitHead b .unit) unit
+    ∷ zerosAt b 9 3
+    ∷ zerosAt b 36 28
+    ∷ headInRange (unitHead b)
+    ∷ [])

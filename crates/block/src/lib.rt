@@ -1,0 +1,385 @@
+// A unit's block and the roster: decoded, and question 1.
+use fields::u8_at;
+use fields::u16_at;
+use quantities::Kilowatt;
+use quantities::Minute;
+use quantities::Period;
+use quantities::kilowatt_at;
+use quantities::minute_at;
+use records::OFF_GRID;
+use records::STOP;
+use records::choose;
+use records::fields_in_range;
+use records::has_begun;
+use records::is_carried;
+use records::is_levelled;
+use records::within;
+use rules::PowerRange;
+use rules::Powers;
+use rules::Record;
+use rules::RosterEntry;
+use rules::Row;
+use rules::UnitHead;
+ghost use mathlib.Core.Path.{_≡_};
+ghost use mathlib.Core.Bool.{not, _||_};
+ghost use Prim.Native.Nat.{_+_, _*_, _≤_, _<_};
+ghost use lib.ListN.{length};
+ghost use Rattle.fields.specs.Lists.{all, series, part};
+ghost use Rattle.fields.specs.Fields.{u32At};
+ghost use Rattle.rules.specs.Roster.{powersAt, entryOf, entryGood, piece, rosterGood};
+ghost use Rattle.rules.specs.Block.{zeros, zerosAt, unitHead, slotAt, used, recordIn, storedCount};
+ghost use Rattle.rules.specs.Whole.{recordsApart, slotWhole, slotsApart, blockWhole, registerWhole};
+ghost use Rattle.block.specs.Slot.{pairsRise, holdsAlone, headWhole};
+
+// The n bytes from `at` on; what would lie past the end is left out.
+pub fn stretch<'a>(s: &'a [u8], at: usize, n: usize) -> &'a [u8]
+    ensures { λ r. ⌜ now r ≡ part (now (s .entry)) at n ⌝ }
+{
+    if s.len() <= at {
+        return &s[0..0];
+    }
+    let e = s.len();
+    if e - at <= n {
+        return &s[at..e];
+    }
+    let e = at + n;
+    &s[at..e]
+}
+
+pub fn powers_at(s: &[u8], at: usize) -> Powers
+    ensures { λ r. ⌜ r ≡ powersAt (now (s .entry)) at ⌝ }
+{
+    if s.len() <= at {
+        let max = Kilowatt(0);
+        let min = Kilowatt(0);
+        let none = PowerRange { max, min };
+        return Powers {
+            generation: none,
+            consumption: none,
+        };
+    }
+    let max = kilowatt_at(s, at);
+    let min = kilowatt_at(s, at + 4);
+    let generation = PowerRange { max, min };
+    let max = kilowatt_at(s, at + 8);
+    let min = kilowatt_at(s, at + 12);
+    let consumption = PowerRange { max, min };
+    Powers {
+        generation,
+        consumption,
+    }
+}
+
+pub fn entry_of(s: &[u8]) -> RosterEntry
+    ensures { λ r. ⌜ r ≡ entryOf (now (s .entry)) ⌝ }
+{
+    let since = minute_at(s, 8);
+    let row = Row {
+        state: u8_at(s, 5),
+        qualification: u8_at(s, 6),
+        since,
+    };
+    let powers = powers_at(s, 12);
+    RosterEntry {
+        owner: u16_at(s, 2),
+        kind: u8_at(s, 4),
+        row,
+        powers,
+    }
+}
+
+pub fn unit_head(b: &[u8]) -> UnitHead
+    ensures { λ r. ⌜ r ≡ unitHead (now (b .entry)) ⌝ }
+{
+    let since = minute_at(b, 12);
+    let row = Row {
+        state: u8_at(b, 7),
+        qualification: u8_at(b, 8),
+        since,
+    };
+    let last_stamp = minute_at(b, 16);
+    let powers = powers_at(b, 20);
+    UnitHead {
+        unit: u16_at(b, 2),
+        owner: u16_at(b, 4),
+        kind: u8_at(b, 6),
+        row,
+        last_stamp,
+        powers,
+    }
+}
+
+// Slot i, from 0.
+pub fn slot_at<'a>(b: &'a [u8], i: u8) -> &'a [u8]
+    ensures { λ r. ⌜ now r ≡ slotAt (now (b .entry)) i ⌝ }
+{
+    stretch(b, 64 + 888 * (i as usize), 888)
+}
+
+pub fn is_used(z: &[u8]) -> bool
+    ensures { λ r. ⌜ r ≡ used (now (z .entry)) ⌝ }
+{
+    u16_at(z, 0) == 0x475A
+}
+
+pub fn record_in(z: &[u8]) -> Record
+    ensures { λ r. ⌜ r ≡ recordIn (now (z .entry)) ⌝ }
+{
+    let identifier = fields::bytes16_at(z, 8);
+    let stamp = minute_at(z, 24);
+    let period = quantities::period_at(z, 28);
+    Record {
+        record_type: u8_at(z, 2),
+        direction: u8_at(z, 3),
+        qualification: u8_at(z, 4),
+        start_mark: u8_at(z, 5),
+        ordinal: u16_at(z, 6),
+        identifier,
+        stamp,
+        period,
+    }
+}
+
+pub fn stored_count(z: &[u8]) -> u16
+    ensures { λ r. ⌜ r ≡ storedCount (now (z .entry)) ⌝ }
+{
+    u16_at(z, 36)
+}
+
+fn all_zero(z: &[u8]) -> bool
+    ensures { λ r. ⌜ r ≡ zerosAt (now (z .entry)) 0 (length (now (z .entry))) ⌝ }
+{
+    let mut ok = true;
+    for i in 0..z.len() {
+        ok = ok & (z[i] == 0);
+    }
+    ok
+}
+
+// A byte past the end counts as 0.
+pub fn zeros_at(s: &[u8], at: usize, n: usize) -> bool
+    ensures { λ r. ⌜ r ≡ zerosAt (now (s .entry)) at n ⌝ }
+{
+    all_zero(stretch(s, at, n))
+}
+
+fn wide(x: u8) -> u32
+    ensures { λ r. ⌜ (r ≡ x) × (r < 256) ⌝ }
+{
+    x as u32
+}
+
+// u32_at where the bytes are known to be there: four loads and no test.
+fn word_at(z: &[u8], at: usize) -> u32
+    requires { ⌜ at + 4 ≤ length (now z) ⌝ }
+    ensures { λ r. ⌜ r ≡ u32At (now (z .entry)) at ⌝ }
+{
+    wide(z[at]) + 256 * wide(z[at + 1]) + 65536 * wide(z[at + 2]) + 16777216 * wide(z[at + 3])
+}
+
+// The part ends rise from the period's start to its end, and every power is in range.
+fn pairs_rise(z: &[u8], k: u16, period: Period) -> bool
+    requires { ⌜ 88 + 8 * k ≤ length (now z) ⌝ }
+    ensures { λ r. ⌜ r ≡ pairsRise (now (z .entry)) 88 k (period .start .0) (period .end .0) ⌝ }
+{
+    let mut ok = true;
+    let mut start = period.start;
+    for i in 0..k {
+        let at = 88 + 8 * (i as usize);
+        let end = Minute(word_at(z, at));
+        let power = Kilowatt(word_at(z, at + 4));
+        ok = ok & ((start.0 < end.0) & quantities::is_power(power));
+        start = end;
+    }
+    ok & (start.0 == period.end.0)
+}
+
+// What question 1 asks of a record, but for its parts.
+fn holds_alone(kind: u8, last: Minute, r: Record) -> bool
+    ensures { λ b. ⌜ b ≡ holdsAlone kind last r ⌝ }
+{
+    within(STOP, OFF_GRID, r.record_type)
+        & fields_in_range(r)
+        & is_carried(kind, r)
+        & (!(r.record_type == OFF_GRID) | has_begun(r))
+        & (r.period.start.0 < r.period.end.0)
+        & (r.stamp.0 <= last.0)
+        & (!has_begun(r) | (r.period.start.0 <= r.stamp.0))
+}
+
+fn slot_whole(kind: u8, last: Minute, z: &[u8]) -> bool
+    requires { ⌜ length (now z) ≡ 888 ⌝ }
+    ensures { λ r. ⌜ r ≡ slotWhole kind last (now (z .entry)) ⌝ }
+{
+    if is_used(z) {
+        let k = stored_count(z);
+        if 100 < k {
+            return false;
+        }
+        let r = record_in(z);
+        let from = 88 + 8 * (k as usize);
+        return holds_alone(kind, last, r)
+            & choose(
+                is_levelled(r.record_type),
+                (1 <= k) & pairs_rise(z, k, r.period),
+                k == 0,
+            )
+            & zeros_at(z, 38, 50)
+            & zeros_at(z, from, 888 - from);
+    }
+    all_zero(z)
+}
+
+fn slots_whole(kind: u8, last: Minute, b: &[u8]) -> bool
+    requires { ⌜ length (now b) ≡ 7168 ⌝ }
+    ensures { λ r. ⌜ r ≡ all (λ i. slotWhole kind last (slotAt (now (b .entry)) i)) (series (λ i. i) 0 8) ⌝ }
+{
+    for i in 0..8u8 {
+        if !slot_whole(kind, last, slot_at(b, i)) {
+            return false;
+        }
+    }
+    true
+}
+
+// A record and what is in a slot.
+fn slot_apart(r: Record, z: &[u8]) -> bool
+    ensures { λ a. ⌜ a ≡ (not (used (now (z .entry))) || recordsApart r (recordIn (now (z .entry)))) ⌝ }
+{
+    if is_used(z) {
+        records::records_apart(r, record_in(z))
+    } else {
+        true
+    }
+}
+
+// A record and what is in the slots below i.
+fn apart_below(r: Record, b: &[u8], i: u8) -> bool
+    ensures { λ a. ⌜ a ≡ all (λ j. not (used (slotAt (now (b .entry)) j)) || recordsApart r (recordIn (slotAt (now (b .entry)) j))) (series (λ j. j) 0 i) ⌝ }
+{
+    let mut ok = true;
+    for j in 0..i {
+        ok = ok & slot_apart(r, slot_at(b, j));
+    }
+    ok
+}
+
+fn slot_apart_below(b: &[u8], i: u8) -> bool
+    ensures { λ a. ⌜ a ≡ all (λ j. slotsApart (slotAt (now (b .entry)) i) (slotAt (now (b .entry)) j)) (series (λ j. j) 0 i) ⌝ }
+{
+    let y = slot_at(b, i);
+    if is_used(y) {
+        apart_below(record_in(y), b, i)
+    } else {
+        true
+    }
+}
+
+fn slots_apart(b: &[u8]) -> bool
+    ensures { λ a. ⌜ a ≡ all (λ i. all (λ j. slotsApart (slotAt (now (b .entry)) i) (slotAt (now (b .entry)) j)) (series (λ j. j) 0 i)) (series (λ i. i) 0 8) ⌝ }
+{
+    let mut ok = true;
+    for i in 0..8u8 {
+        ok = ok & slot_apart_below(b, i);
+    }
+    ok
+}
+
+fn head_whole(unit: u16, b: &[u8]) -> bool
+    ensures { λ r. ⌜ r ≡ headWhole unit (now (b .entry)) ⌝ }
+{
+    let h = unit_head(b);
+    (u16_at(b, 0) == 0x4E55)
+        & (h.unit == unit)
+        & zeros_at(b, 9, 3)
+        & zeros_at(b, 36, 28)
+        & records::head_in_range(h)
+}
+
+// Question 1, of the block of a unit.
+pub fn block_whole(unit: u16, b: &[u8]) -> bool
+    ensures { λ r. ⌜ r ≡ blockWhole unit (now (b .entry)) ⌝ }
+{
+    if b.len() != 7168 {
+        return false;
+    }
+    if !head_whole(unit, b) {
+        return false;
+    }
+    let h = unit_head(b);
+    if !slots_whole(h.kind, h.last_stamp, b) {
+        return false;
+    }
+    slots_apart(b)
+}
+
+fn blocks_whole(register: &[u8], n: u16) -> bool
+    requires { ⌜ n ≤ 64 ⌝ }
+    ensures { λ r. ⌜ r ≡ all (λ u. blockWhole u (piece 7168 (now (register .entry)) u)) (series (λ u. u) 1 n) ⌝ }
+{
+    for i in 0..n {
+        let b = stretch(register, 7168 * (i as usize), 7168);
+        if !block_whole(i + 1, b) {
+            return false;
+        }
+    }
+    true
+}
+
+// Question 1.
+pub fn register_whole(register: &[u8]) -> bool
+    ensures { λ r. ⌜ r ≡ registerWhole (now (register .entry)) ⌝ }
+{
+    let n = register.len() / 7168;
+    if (register.len() % 7168 == 0) & ((1 <= n) & (n <= 64)) {
+        blocks_whole(register, n as u16)
+    } else {
+        false
+    }
+}
+
+// A good roster entry.
+pub fn entry_good(s: &[u8]) -> bool
+    ensures { λ r. ⌜ r ≡ entryGood (now (s .entry)) ⌝ }
+{
+    let e = entry_of(s);
+    (u16_at(s, 0) == 0x474A)
+        & records::owner_in_range(e.owner)
+        & records::kind_in_range(e.kind)
+        & records::row_in_range(e.kind, e.row)
+        & (u8_at(s, 7) == 0)
+        & records::powers_in_order(e.kind, e.powers)
+}
+
+fn entries_good(roster: &[u8], n: u16) -> bool
+    requires { ⌜ n ≤ 64 ⌝ }
+    ensures { λ r. ⌜ r ≡ all (λ u. entryGood (piece 28 (now (roster .entry)) u)) (series (λ u. u) 1 n) ⌝ }
+{
+    for i in 0..n {
+        if !entry_good(stretch(roster, 28 * (i as usize), 28)) {
+            return false;
+        }
+    }
+    true
+}
+
+// Question 20: 1 to 64 good entries.
+pub fn roster_good(roster: &[u8]) -> bool
+    ensures { λ r. ⌜ r ≡ rosterGood (now (roster .entry)) ⌝ }
+{
+    let n = roster.len() / 28;
+    if (roster.len() % 28 == 0) & ((1 <= n) & (n <= 64)) {
+        entries_good(roster, n as u16)
+    } else {
+        false
+    }
+}
+
+// Every byte becomes 0.
+pub fn clear(b: &mut [u8])
+    ensures { λ _. ⌜ now (b .exit) ≡ zeros (length (now (b .entry))) ⌝ }
+{
+    for i in 0..b.len() {
+        b[i] = 0;
+    }
+}

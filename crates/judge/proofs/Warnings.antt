@@ -1,0 +1,78 @@
+-- The warnings from what the code finds. Assumes nothing.
+use Prim.Native.Nat.{ℕ, _+_, _≤_, _<_}
+use mathlib.Core.Path.{_≡_, refl, ap, sym, _∙_}
+use mathlib.Core.Bool.{Bool, true, false, not, _&&_, _||_}
+use mathlib.Core.List.{List, _∷_}
+use native.Mathlib.Omega.{arith}
+use native.Mathlib.Nat.{zero-add}
+use lib.Dec.{eqb}
+use lib.ListN.{getD}
+use borrow.Author.Tests.{eq-eqb, ne-eqb}
+use Rattle.fields.specs.Lists.{pick, all, series}
+use Rattle.fields.proofs.Bools.{chosen, passed-over}
+use Rattle.fields.proofs.Tests.{series-at}
+use Rattle.quantities.specs.Quantities.{overlap}
+use Rattle.report.specs.declared.Head.{Head}
+use Rattle.report.specs.Report.{headOf}
+use Rattle.rules.specs.declared.PowerRange.{PowerRange}
+use Rattle.rules.specs.declared.Record.{Record}
+use Rattle.rules.specs.declared.UnitHead.{UnitHead}
+use Rattle.rules.specs.Codes.{meet}
+use Rattle.rules.specs.Block.{slotAt, used, recordIn, unitHead}
+use Rattle.rules.specs.Questions.{recordOf, rangeOf, leaves}
+use Rattle.rules.specs.Minutes.{Work, worksAmong, blockWorks, aboveMax, belowMin, levelsSome}
+use Rattle.rules.specs.After.{oneStopOneLevelled, blockAfter, someSlot, warnsOverlap, warnsMinute, warnsLeft, worth, warnings}
+use Rattle.levels.specs.declared.Findings.{Findings}
+use Rattle.levels.specs.Works.{sweptWorks}
+use Rattle.levels.specs.Findings.{findings}
+use Rattle.judge.specs.Warned.{overlapAt, minuteWarnings, warningsOn}
+use Rattle.judge.proofs.Joins.{works-same}
+
+pub overlap-join : (after : List ℕ) (r : Record) (i : ℕ) {z : List ℕ} {x : Record} {u o m p : Bool} → z ≡ slotAt after i → x ≡ recordIn z → u ≡ used z → o ≡ oneStopOneLevelled r x → m ≡ meet (r .direction) (x .direction) → p ≡ overlap (r .period) (x .period) → (u && o && m && p) ≡ overlapAt after r i
+overlap-join after r i e f a b c d = rw (a, b, c, d, f, e)
+
+pub warns-join : (after s : List ℕ) {r : Record} {none : Bool} → r ≡ recordOf s → none ≡ all (λ i. not (overlapAt after r i)) (series (λ i. i) 0 8) → not none ≡ warnsOverlap after s
+unfolding warnsOverlap someSlot
+warns-join after s e p = ap not p ∙ rw e
+
+block-swept : (b s : List ℕ) → sweptWorks b s (series (λ i. used (slotAt b i)) 0 8) false ≡ blockWorks b
+unfolding sweptWorks blockWorks pick
+block-swept b s =
+    works-same b (λ i. getD (series (λ i. used (slotAt b i)) 0 8) i false) (λ i. used (slotAt b i)) 0 8
+    (λ j x y. series-at (λ i. used (slotAt b i)) 0 8 j false (omega arith) ∙ ap (λ (k : ℕ). used (slotAt b k)) (zero-add j))
+
+module _ (after s : List ℕ) {h : Head} (e : h ≡ headOf s) where
+  type-same : h .«record_type» ≡ headOf s .«record_type»
+  type-same = ap (λ (h : Head). h .«record_type») e
+
+  pub minutes-warn : {counted : List Bool} {u : UnitHead} {r : PowerRange} {g : Findings} {x y : ℕ} → h .«record_type» ≡ 4 → counted ≡ series (λ i. used (slotAt after i)) 0 8 → u ≡ unitHead after → r ≡ rangeOf (unitHead after .powers) (h .direction) → g ≡ findings (u .kind) r (sweptWorks after s counted false) (headOf s .direction) (headOf s .period .start .0) (headOf s .period .end .0) → x ≡ worth 2 (g .above) → y ≡ worth 4 (g .below) → x + y ≡ minuteWarnings after s
+  unfolding warnsMinute findings
+  minutes-warn {counted} {u} {r} {g} {x} {y} t c f q p a b =
+      let forced = eq-eqb (headOf s .«record_type») 4 (sym type-same ∙ t) in
+      let above : g .above ≡ warnsMinute aboveMax after s = ap (λ (g : Findings). g .above) p ∙ rw (forced, c, block-swept after s, f, q, e) in
+      let below : g .below ≡ warnsMinute belowMin after s = ap (λ (g : Findings). g .below) p ∙ rw (forced, c, block-swept after s, f, q, e) in
+      rw (a, b, above, below)
+
+  pub minutes-silent : (h .«record_type» ≡ 4 → ⊥) → 0 ≡ minuteWarnings after s
+  unfolding warnsMinute pick
+  minutes-silent ne = rw (ne-eqb (headOf s .«record_type») 4 (λ t. ne (type-same ∙ t)))
+
+  unfoldable skips : Bool → Type 0
+  skips t = (eqb (headOf s .«record_type») 6 || eqb (headOf s .operation) 3) ≡ t
+
+  skipped : (t : Bool) → (eqb (h .«record_type») 6 || eqb (h .operation) 3) ≡ t → skips t
+  unfolding skips
+  skipped t q = ap (λ (h : Head). eqb (h .«record_type») 6 || eqb (h .operation) 3) (sym e) ∙ q
+
+  pub no-warnings : (left : Bool) → (eqb (h .«record_type») 6 || eqb (h .operation) 3) ≡ true → 0 ≡ warningsOn after s left
+  unfolding warningsOn skips pick
+  no-warnings left t = rw (skipped true t)
+
+  pub all-warnings : (left : Bool) {x y z : ℕ} → (eqb (h .«record_type») 6 || eqb (h .operation) 3) ≡ false → x ≡ worth 1 (warnsOverlap after s) → y ≡ worth 8 (eqb (h .«record_type») 1 && left) → z ≡ minuteWarnings after s → x + z + y ≡ warningsOn after s left
+  unfolding warningsOn skips pick
+  all-warnings left t a b c = rw (a, b, c, type-same, skipped false t)
+
+-- they are the warnings of the paper
+pub warnings-same : (b s : List ℕ) → warningsOn (blockAfter b s) s (someSlot (leaves b s)) ≡ warnings b s
+unfolding warningsOn warnings warnsLeft
+warnings-same b s = ap (pick _ 0) (omega arith)

@@ -1,0 +1,40 @@
+use Prim.Native.Nat.{ℕ, _≤_, _-_}
+use mathlib.Core.Path.{_≡_, refl, ap, sym, _∙_}
+use native.Mathlib.Omega.{arith}
+use borrow.Author.Needs.{needs}
+use native.Mathlib.Nat.{zero-add}
+use lib.ListN.{length, take, length-set}
+use Rattle.fields.specs.Lists.{series}
+use Rattle.fields.proofs.Stretches.{filled-none, filled-more, filled-all}
+use Rattle.rules.specs.Questions.{other}
+use Rattle.judge.proofs.other_slots.Statement.{statement}
+use Rattle.judge.proofs.other_slots.Tie as tie
+
+abbrev Inv-loop : tie.InvT-loop
+Inv-loop b report held flags₀ i₀ flags i = (i ≤ 8) × (length flags ≡ 8) × (take i flags ≡ series (other b report) 0 i)
+
+abbrev μ-loop : tie.MeasureT-loop
+μ-loop b report held flags₀ i₀ flags i = 8 - i
+
+loop-again : tie.Need-loop-again Inv-loop μ-loop
+loop-again c = (omega arith, simp length-set (omega arith), filled-more _ _ _ _ (c .before .before .loop .inv .2) (omega arith) (c .is-other .ensures ∙ ap (other _ _) (sym (zero-add _))))
+
+returns : tie.Need-returns Inv-loop μ-loop
+returns c =
+    let e : c .before .loop .i ≡ 8 = omega arith in
+    filled-all _ _ 8 (c .before .loop .inv .1) (rw e at (c .before .loop .inv .2))
+
+pub other-slots-spec : {M : Type 1} → statement M
+other-slots-spec =
+    tie.close
+    (tie.spec
+    Inv-loop
+    μ-loop
+    (λ c. (omega arith, refl, filled-none _ _))
+    (λ c κs. search needs)
+    (λ c. search needs)
+    (λ c. search needs)
+    (λ c. search needs)
+    (λ c. search needs)
+    loop-again
+    returns)

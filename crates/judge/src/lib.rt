@@ -1,0 +1,480 @@
+// Questions 10 to 19 on a unit's block, and the number of the first "no".
+use levels::Swept;
+use quantities::Minute;
+use report::Head;
+use report::Part;
+use rules::PowerRange;
+use rules::Record;
+use rules::Row;
+ghost use mathlib.Core.Path.{_≡_};
+ghost use mathlib.Core.Bool.{_&&_};
+ghost use Prim.Native.Nat.{_+_, _≤_};
+ghost use lib.Dec.{eqb};
+ghost use Rattle.fields.specs.Lists.{pick, all, series};
+ghost use Rattle.report.specs.Report.{headOf, partsOf};
+ghost use Rattle.rules.specs.Records.{sameIdentifier};
+ghost use Rattle.rules.specs.Codes.{isLevelled};
+ghost use Rattle.rules.specs.Block.{slotAt, used};
+ghost use Rattle.rules.specs.After.{slotWritten, someSlot, oneStopOneLevelled, warnsOverlap, worth};
+ghost use Rattle.judge.specs.Warned.{overlapAt, minuteWarnings, warningsOn, outcomeOf};
+ghost use Rattle.rules.specs.Judge.{formNumber, recordNumber, limitNumber, refusalNumber};
+ghost use Rattle.rules.specs.Minutes.{question17};
+ghost use Rattle.rules.specs.Block.{unitHead};
+ghost use Rattle.rules.specs.Questions.{rangeOf, recordOf, recordAt, live, holder, other, ofHolder, mayMove, clashClosed, question15, deratingFits, question16, beginsBy, changesState, hasArrow, question18, mustLeave, leaves, stays, freeSlot};
+
+// What an accepted report does to the slots: which keep their record, which one is written (8: none), whether the
+// state changes, and whether some record leaves.
+pub struct Outcome {
+    pub keep: [bool; 8],
+    pub written: u8,
+    pub changes: bool,
+    pub left: bool,
+}
+
+fn record_at(b: &[u8], i: u8) -> Record
+    ensures { λ r. ⌜ r ≡ recordAt (now (b .entry)) i ⌝ }
+{
+    block::record_in(block::slot_at(b, i))
+}
+
+fn is_live(b: &[u8], stamp: Minute, i: u8) -> bool
+    ensures { λ r. ⌜ r ≡ live (now (b .entry)) (stamp .0) i ⌝ }
+{
+    let z = block::slot_at(b, i);
+    block::is_used(z) & (stamp.0 < block::record_in(z).period.end.0)
+}
+
+// Slot i is live and has the record's identifier.
+fn holds(b: &[u8], r: Record, i: u8) -> bool
+    ensures { λ t. ⌜ t ≡ (live (now (b .entry)) (r .stamp .0) i && sameIdentifier r (recordAt (now (b .entry)) i)) ⌝ }
+{
+    is_live(b, r.stamp, i) & records::same_identifier(r, record_at(b, i))
+}
+
+// The live slot that has the report's identifier, or 8.
+fn find_holder(b: &[u8], report: &[u8]) -> u8
+    ensures { λ r. ⌜ r ≡ holder (now (b .entry)) (now (report .entry)) ⌝ }
+{
+    let r = records::record_of(report);
+    for i in 0..8u8 {
+        if holds(b, r, i) {
+            return i;
+        }
+    }
+    8
+}
+
+// Slot i is live and not the one that is changed.
+fn is_other(b: &[u8], report: &[u8], held: u8, i: u8) -> bool
+    requires { ⌜ held ≡ holder (now b) (now report) ⌝ }
+    ensures { λ r. ⌜ r ≡ other (now (b .entry)) (now (report .entry)) i ⌝ }
+{
+    let h = report::head_of(report);
+    let live = is_live(b, h.stamp, i);
+    live & !((h.operation == 2) & (i == held))
+}
+
+fn other_slots(b: &[u8], report: &[u8], held: u8) -> [bool; 8]
+    requires { ⌜ held ≡ holder (now b) (now report) ⌝ }
+    ensures { λ r. ⌜ r ≡ series (other (now (b .entry)) (now (report .entry))) 0 8 ⌝ }
+{
+    let mut flags = [false; 8];
+    for i in 0..8u8 {
+        flags[i as usize] = is_other(b, report, held, i);
+    }
+    flags
+}
+
+// Question 13.
+fn is_of_holder(h: Head, held: Record) -> bool
+    ensures { λ r. ⌜ r ≡ ofHolder h held ⌝ }
+{
+    (h.operation == 1)
+        | ((h.record_type == held.record_type)
+            & (h.direction == held.direction)
+            & (h.qualification == held.qualification)
+            & (held.ordinal < h.ordinal))
+}
+
+// Question 14.
+fn may_move(h: Head, held: Record) -> bool
+    ensures { λ r. ⌜ r ≡ mayMove h held ⌝ }
+{
+    (h.operation == 1)
+        | !(held.start_mark == 2)
+        | ((h.operation == 2) & (h.period.start.0 == held.period.start.0) & (h.start_mark == 2))
+}
+
+// Question 15, of one slot.
+fn clash_is_closed(b: &[u8], report: &[u8], held: u8, i: u8) -> bool
+    requires { ⌜ held ≡ holder (now b) (now report) ⌝ }
+    ensures { λ r. ⌜ r ≡ clashClosed (now (b .entry)) (now (report .entry)) i ⌝ }
+{
+    let r = records::record_of(report);
+    let x = record_at(b, i);
+    !(is_other(b, report, held, i) & records::records_clash(r, x)) | records::is_closed_by(r, x)
+}
+
+// Question 15.
+fn clashes_are_closed(b: &[u8], report: &[u8], held: u8) -> bool
+    requires { ⌜ held ≡ holder (now b) (now report) ⌝ }
+    ensures { λ r. ⌜ r ≡ question15 (now (b .entry)) (now (report .entry)) ⌝ }
+{
+    let mut ok = true;
+    for i in 0..8u8 {
+        ok = ok & clash_is_closed(b, report, held, i);
+    }
+    ok
+}
+
+fn derating_fits(range: PowerRange, record_type: u8, p: Part) -> bool
+    ensures { λ r. ⌜ r ≡ deratingFits range «record_type» p ⌝ }
+{
+    let power = quantities::wide(quantities::size_of(p.power));
+    let max = quantities::wide(range.max);
+    let min = quantities::wide(range.min);
+    (!(record_type == 2) | (power <= max)) & (!(record_type == 3) | (power + min <= max))
+}
+
+fn range_of(b: &[u8], direction: u8) -> PowerRange
+    ensures { λ r. ⌜ r ≡ rangeOf (unitHead (now (b .entry)) .powers) direction ⌝ }
+{
+    let head = block::unit_head(b);
+    records::range_of(head.powers, direction)
+}
+
+fn deratings_among(report: &[u8], range: PowerRange, record_type: u8) -> bool
+    ensures { λ r. ⌜ r ≡ all (deratingFits range «record_type») (partsOf (now (report .entry))) ⌝ }
+{
+    let k = fields::u16_at(report, 14);
+    let mut ok = true;
+    for i in 0..k {
+        ok = ok & derating_fits(range, record_type, report::part_at(report, i));
+    }
+    ok
+}
+
+// Question 16.
+fn deratings_fit(b: &[u8], report: &[u8]) -> bool
+    ensures { λ r. ⌜ r ≡ question16 (now (b .entry)) (now (report .entry)) ⌝ }
+{
+    let h = report::head_of(report);
+    deratings_among(report, range_of(b, h.direction), h.record_type)
+}
+
+fn begins(h: Head, held: Record) -> bool
+    ensures { λ r. ⌜ r ≡ beginsBy h held ⌝ }
+{
+    (h.start_mark == 2)
+        & ((h.record_type == 1) | (h.record_type == 5))
+        & ((h.operation == 1) | ((h.operation == 2) & !(held.start_mark == 2)))
+}
+
+fn changes_state(b: &[u8], report: &[u8], held: u8) -> bool
+    requires { ⌜ held ≡ holder (now b) (now report) ⌝ }
+    ensures { λ r. ⌜ r ≡ changesState (now (b .entry)) (now (report .entry)) ⌝ }
+{
+    let h = report::head_of(report);
+    let kind = block::unit_head(b).kind;
+    (kind == 1) & ((h.record_type == 6) | begins(h, record_at(b, held)))
+}
+
+fn has_arrow(row: Row, h: Head) -> bool
+    ensures { λ r. ⌜ r ≡ hasArrow row h ⌝ }
+{
+    (row.since.0 < h.period.start.0)
+        & !(records::leads_to(row, h.record_type, h.qualification) == 0)
+}
+
+// Question 18.
+fn state_may_change(b: &[u8], report: &[u8], held: u8) -> bool
+    requires { ⌜ held ≡ holder (now b) (now report) ⌝ }
+    ensures { λ r. ⌜ r ≡ question18 (now (b .entry)) (now (report .entry)) ⌝ }
+{
+    let head = block::unit_head(b);
+    let row = head.row;
+    !changes_state(b, report, held) | has_arrow(row, report::head_of(report))
+}
+
+fn must_leave(h: Head, changes: bool, x: Record) -> bool
+    ensures { λ r. ⌜ r ≡ mustLeave h changes x ⌝ }
+{
+    let r = records::record_by(h);
+    (!(h.operation == 3) & records::records_clash(r, x) & records::is_closed_by(r, x))
+        | (changes & records::holds_state(x))
+}
+
+// Question 17.
+fn minutes_fit(b: &[u8], report: &[u8], held: u8) -> bool
+    requires { ⌜ held ≡ holder (now b) (now report) ⌝ }
+    ensures { λ r. ⌜ r ≡ question17 (now (b .entry)) (now (report .entry)) ⌝ }
+{
+    let h = report::head_of(report);
+    if records::is_levelled(h.record_type) {
+        let counted = other_slots(b, report, held);
+        let swept = Swept {
+            counted,
+            with_report: true,
+        };
+        let kind = block::unit_head(b).kind;
+        let range = range_of(b, h.direction);
+        levels::sweep(b, report, swept, kind, range).fits
+    } else {
+        true
+    }
+}
+
+// The record in slot i leaves.
+fn leaves_at(b: &[u8], report: &[u8], held: u8, changes: bool, i: u8) -> bool
+    requires { ⌜ (held ≡ holder (now b) (now report)) × (changes ≡ changesState (now b) (now report)) ⌝ }
+    ensures { λ r. ⌜ r ≡ leaves (now (b .entry)) (now (report .entry)) i ⌝ }
+{
+    let h = report::head_of(report);
+    is_other(b, report, held, i) & must_leave(h, changes, record_at(b, i))
+}
+
+// Slot i keeps its record.
+fn stays_at(b: &[u8], report: &[u8], held: u8, changes: bool, i: u8) -> bool
+    requires { ⌜ (held ≡ holder (now b) (now report)) × (changes ≡ changesState (now b) (now report)) ⌝ }
+    ensures { λ r. ⌜ r ≡ stays (now (b .entry)) (now (report .entry)) i ⌝ }
+{
+    let h = report::head_of(report);
+    let live = is_live(b, h.stamp, i);
+    let leaves = leaves_at(b, report, held, changes, i);
+    live & !leaves & !((h.operation == 3) & (i == held))
+}
+
+fn staying_slots(b: &[u8], report: &[u8], held: u8, changes: bool) -> [bool; 8]
+    requires { ⌜ (held ≡ holder (now b) (now report)) × (changes ≡ changesState (now b) (now report)) ⌝ }
+    ensures { λ r. ⌜ r ≡ series (stays (now (b .entry)) (now (report .entry))) 0 8 ⌝ }
+{
+    let mut flags = [false; 8];
+    for i in 0..8u8 {
+        flags[i as usize] = stays_at(b, report, held, changes, i);
+    }
+    flags
+}
+
+// The lowest slot that does not keep its record, or 8.
+fn lowest_free(b: &[u8], report: &[u8], held: u8, changes: bool) -> u8
+    requires { ⌜ (held ≡ holder (now b) (now report)) × (changes ≡ changesState (now b) (now report)) ⌝ }
+    ensures { λ r. ⌜ r ≡ freeSlot (now (b .entry)) (now (report .entry)) ⌝ }
+{
+    for i in 0..8u8 {
+        if !stays_at(b, report, held, changes, i) {
+            return i;
+        }
+    }
+    8
+}
+
+// The number of a question that is answered no, else what is answered next.
+fn asked(number: u8, yes: bool, next: u8) -> u8
+    ensures { λ r. ⌜ r ≡ pick yes next number ⌝ }
+{
+    if yes { next } else { number }
+}
+
+// Questions 4 to 9.
+fn form_number(b: &[u8], report: &[u8]) -> u8
+    ensures { λ r. ⌜ r ≡ formNumber (now (b .entry)) (now (report .entry)) 0 ⌝ }
+{
+    let h = report::head_of(report);
+    let is_event = h.record_type == 6;
+    let is_withdrawal = h.operation == 3;
+    let q4 = form::fields_pass(report);
+    let kind = block::unit_head(b).kind;
+    let q5 = records::is_carried(kind, records::record_of(report));
+    let q6 = is_withdrawal | form::times_are_honest(h);
+    let q7 = is_withdrawal | form::ends_are_on_quarters(report);
+    let q8 = form::parts_pass(report);
+    let q9 = is_event | is_withdrawal | form::powers_pass(report);
+    asked(
+        4,
+        q4,
+        asked(
+            5,
+            q5,
+            asked(6, q6, asked(7, q7, asked(8, q8, asked(9, q9, 0)))),
+        ),
+    )
+}
+
+// Questions 10 to 15.
+fn record_number(b: &[u8], report: &[u8], held: u8) -> u8
+    requires { ⌜ held ≡ holder (now b) (now report) ⌝ }
+    ensures { λ r. ⌜ r ≡ recordNumber (now (b .entry)) (now (report .entry)) 0 ⌝ }
+{
+    let h = report::head_of(report);
+    let is_event = h.record_type == 6;
+    let is_creation = h.operation == 1;
+    let last = block::unit_head(b).last_stamp;
+    let x = record_at(b, held);
+    let q10 = last.0 <= h.stamp.0;
+    let q11 = is_event | (!is_creation | !(held < 8));
+    let q12 = is_event | (is_creation | (held < 8));
+    let q13 = is_event | is_of_holder(h, x);
+    let q14 = is_event | may_move(h, x);
+    let q15 = is_event | (h.operation == 3) | clashes_are_closed(b, report, held);
+    asked(
+        10,
+        q10,
+        asked(
+            11,
+            q11,
+            asked(12, q12, asked(13, q13, asked(14, q14, asked(15, q15, 0)))),
+        ),
+    )
+}
+
+// Questions 16 to 19.
+fn limit_number(b: &[u8], report: &[u8], held: u8) -> u8
+    requires { ⌜ held ≡ holder (now b) (now report) ⌝ }
+    ensures { λ r. ⌜ r ≡ limitNumber (now (b .entry)) (now (report .entry)) 0 ⌝ }
+{
+    let h = report::head_of(report);
+    let is_event = h.record_type == 6;
+    let skipped = is_event | (h.operation == 3);
+    let changes = changes_state(b, report, held);
+    let q16 = skipped | deratings_fit(b, report);
+    let q17 = skipped | minutes_fit(b, report, held);
+    let q18 = (h.operation == 3) | state_may_change(b, report, held);
+    let creates = (h.operation == 1) & !is_event;
+    let q19 = skipped | (!creates | (lowest_free(b, report, held, changes) < 8));
+    asked(16, q16, asked(17, q17, asked(18, q18, asked(19, q19, 0))))
+}
+
+// The number of the first "no", or 0.
+pub fn refusal_number(b: &[u8], report: &[u8]) -> u8
+    ensures { λ r. ⌜ r ≡ refusalNumber (now (b .entry)) (now (report .entry)) ⌝ }
+{
+    let form = form_number(b, report);
+    if form != 0 {
+        return form;
+    }
+    let held = find_holder(b, report);
+    let record = record_number(b, report, held);
+    if record != 0 {
+        return record;
+    }
+    limit_number(b, report, held)
+}
+
+// The slot that an accepted report writes, or 8.
+fn slot_written(b: &[u8], report: &[u8], held: u8, changes: bool) -> u8
+    requires { ⌜ (held ≡ holder (now b) (now report)) × (changes ≡ changesState (now b) (now report)) ⌝ }
+    ensures { λ r. ⌜ r ≡ slotWritten (now (b .entry)) (now (report .entry)) ⌝ }
+{
+    let h = report::head_of(report);
+    let creates = (h.operation == 1) & !(h.record_type == 6);
+    let changed = records::choose_code(h.operation == 2, held, 8);
+    records::choose_code(creates, lowest_free(b, report, held, changes), changed)
+}
+
+// Some record leaves.
+fn some_leaves(b: &[u8], report: &[u8], held: u8, changes: bool) -> bool
+    requires { ⌜ (held ≡ holder (now b) (now report)) × (changes ≡ changesState (now b) (now report)) ⌝ }
+    ensures { λ r. ⌜ r ≡ someSlot (leaves (now (b .entry)) (now (report .entry))) ⌝ }
+{
+    let mut none = true;
+    for i in 0..8u8 {
+        none = none & !leaves_at(b, report, held, changes, i);
+    }
+    !none
+}
+
+fn one_stop_one_levelled(x: Record, y: Record) -> bool
+    ensures { λ r. ⌜ r ≡ oneStopOneLevelled x y ⌝ }
+{
+    let x_levelled = records::is_levelled(x.record_type);
+    let y_levelled = records::is_levelled(y.record_type);
+    (x_levelled & (y.record_type == 1)) | ((x.record_type == 1) & y_levelled)
+}
+
+// Warning 1, of slot i.
+fn overlaps_at(after: &[u8], r: Record, i: u8) -> bool
+    ensures { λ t. ⌜ t ≡ overlapAt (now (after .entry)) r i ⌝ }
+{
+    let z = block::slot_at(after, i);
+    let x = block::record_in(z);
+    block::is_used(z)
+        & one_stop_one_levelled(r, x)
+        & records::directions_meet(r.direction, x.direction)
+        & quantities::overlapping(r.period, x.period)
+}
+
+fn warns_overlap(after: &[u8], report: &[u8]) -> bool
+    ensures { λ r. ⌜ r ≡ warnsOverlap (now (after .entry)) (now (report .entry)) ⌝ }
+{
+    let r = records::record_of(report);
+    let mut none = true;
+    for i in 0..8u8 {
+        none = none & !overlaps_at(after, r, i);
+    }
+    !none
+}
+
+fn used_slots(b: &[u8]) -> [bool; 8]
+    ensures { λ r. ⌜ r ≡ series (λ i. used (slotAt (now (b .entry)) i)) 0 8 ⌝ }
+{
+    let mut flags = [false; 8];
+    for i in 0..8u8 {
+        flags[i as usize] = block::is_used(block::slot_at(b, i));
+    }
+    flags
+}
+
+fn worth_of(n: u8, t: bool) -> u8
+    ensures { λ r. ⌜ (r ≡ worth n t) × (r ≤ n) ⌝ }
+{
+    if t { n } else { 0 }
+}
+
+// Warnings 2 and 4.
+fn minute_warnings(after: &[u8], report: &[u8]) -> u8
+    ensures { λ r. ⌜ (r ≡ minuteWarnings (now (after .entry)) (now (report .entry))) × (r ≤ 6) ⌝ }
+{
+    let h = report::head_of(report);
+    if h.record_type == 4 {
+        let counted = used_slots(after);
+        let swept = Swept {
+            counted,
+            with_report: false,
+        };
+        let kind = block::unit_head(after).kind;
+        let range = range_of(after, h.direction);
+        let g = levels::sweep(after, report, swept, kind, range);
+        worth_of(2, g.above) + worth_of(4, g.below)
+    } else {
+        0
+    }
+}
+
+// The warnings of an accepted report, on the block afterwards; `left`: some record left.
+pub fn warnings_on(after: &[u8], report: &[u8], left: bool) -> u8
+    ensures { λ r. ⌜ r ≡ warningsOn (now (after .entry)) (now (report .entry)) left ⌝ }
+{
+    let h = report::head_of(report);
+    if (h.record_type == 6) | (h.operation == 3) {
+        return 0;
+    }
+    let overlap = worth_of(1, warns_overlap(after, report));
+    let left_by_stop = worth_of(8, (h.record_type == 1) & left);
+    overlap + minute_warnings(after, report) + left_by_stop
+}
+
+pub fn decide(b: &[u8], report: &[u8]) -> Outcome
+    ensures { λ r. ⌜ r ≡ outcomeOf (now (b .entry)) (now (report .entry)) ⌝ }
+{
+    let held = find_holder(b, report);
+    let changes = changes_state(b, report, held);
+    let keep = staying_slots(b, report, held, changes);
+    let written = slot_written(b, report, held, changes);
+    let left = some_leaves(b, report, held, changes);
+    Outcome {
+        keep,
+        written,
+        changes,
+        left,
+    }
+}

@@ -1,0 +1,4 @@
+pub mod Spells
+pub mod Parts
+pub mod Works
+pub mod Turns

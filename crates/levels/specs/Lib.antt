@@ -1,0 +1,4 @@
+pub mod Points
+pub mod Stays
+pub mod Works
+pub mod Findings
