@@ -1,0 +1,160 @@
+-- A slot that is written by puts over zeros. Assumes nothing.
+use Prim.Native.Nat.{ℕ, zero, suc, _+_, _*_, _-_, _≤_, _<_}
+use mathlib.Core.Path.{_≡_, refl, ap, sym, _∙_}
+use mathlib.Core.Bool.{Bool, true, false, not}
+use mathlib.Core.List.{List, [], _∷_, _++_, append-assoc, append-nil}
+use native.Mathlib.Omega.{arith}
+use native.Mathlib.Nat.{zero-add}
+use lib.ListN.{length, getD, set, take, drop, replicate, length-append, length-replicate}
+use lib.Seq.{sets-eq, take-at, drop-at, drop-drop}
+use borrow.Author.Tests.{not-true, not-false}
+use Rattle.fields.specs.Fields.{u8At, bytesOf}
+use Rattle.fields.specs.Lists.{pick, series, put}
+use Rattle.fields.proofs.Stretches.{put-append, series-snoc}
+use Rattle.fields.proofs.Numbers.{bytes-length}
+use Rattle.fields.proofs.Tests.{series-length}
+use Rattle.quantities.specs.declared.Kilowatt.{Kilowatt}
+use Rattle.quantities.specs.Quantities.{sizeOf}
+use Rattle.report.specs.declared.Head.{Head}
+use Rattle.report.specs.declared.Part.{Part}
+use Rattle.report.specs.Report.{headOf, partAt, partsOf, partCount}
+use Rattle.rules.specs.declared.Row.{Row}
+use Rattle.rules.specs.declared.UnitHead.{UnitHead}
+use Rattle.rules.specs.Block.{unitHead, slotMark, slotSize, zeros}
+use Rattle.rules.specs.Questions.{leadsTo, reasonAfter, recordOf, kilowatts}
+use Rattle.rules.specs.After.{rowAfter, pairBytes, slotBytes, putRow}
+use Rattle.rules.proofs.Slots.{pairs-length}
+use Rattle.after.specs.Plan.{codesBytes, timesBytes, pairOf, slotMade, headMade}
+
+pub drop-zeros : (m n : ℕ) → drop m (zeros n) ≡ zeros (n - m)
+unfolding zeros
+drop-zeros zero n =
+    let e : n - 0 ≡ n = omega arith in
+    rw e refl
+drop-zeros (suc m) zero =
+    let e : 0 - suc m ≡ 0 = omega arith in
+    rw e refl
+drop-zeros (suc m) (suc n) =
+    let e : suc n - suc m ≡ n - m = omega arith in
+    rw e (drop-zeros m n)
+
+pub series-zeros : (at n : ℕ) → series (λ (j : ℕ). 0) at n ≡ zeros n
+unfolding series zeros
+series-zeros at zero = refl
+series-zeros at (suc n) = ap (λ (l : List ℕ). 0 ∷ l) (series-zeros (at + 1) n)
+
+-- the puts of one group as one put
+pub codes-put : (z : List ℕ) (h : Head) → put (put (put (put (put (put z 0 (bytesOf 2 slotMark)) 2 (h .«record_type» ∷ [])) 3 (h .direction ∷ [])) 4 (h .qualification ∷ [])) 5 (h .«start_mark» ∷ [])) 6 (bytesOf 2 (h .ordinal)) ≡ put z 0 (codesBytes h)
+unfolding put bytesOf codesBytes
+codes-put z h = refl
+
+pub times-put : (z : List ℕ) (h : Head) → put (put (put (put z 24 (bytesOf 4 (h .stamp .0))) 28 (bytesOf 4 (h .period .start .0))) 32 (bytesOf 4 (h .period .end .0))) 36 (bytesOf 2 (h .«part_count»)) ≡ put z 24 (timesBytes h)
+unfolding put bytesOf timesBytes
+times-put z h = refl
+
+pub row-put : (z : List ℕ) (row : Row) → put (put (put z 7 (row .state ∷ [])) 8 (row .qualification ∷ [])) 12 (bytesOf 4 (row .since .0)) ≡ putRow z row
+unfolding put bytesOf putRow
+row-put z row = refl
+
+pub pair-put : (z : List ℕ) (at : ℕ) (p : Part) → put (put z at (bytesOf 4 (p .period .end .0))) (at + 4) (bytesOf 4 (kilowatts p)) ≡ put z at (pairOf p)
+unfolding pairOf
+pair-put z at p =
+    let e = bytes-length 4 (p .period .end .0) in
+    sym (put-append (bytesOf 4 (p .period .end .0)) (bytesOf 4 (kilowatts p)) z at
+    ∙ ap (λ (k : ℕ). put (put z at (bytesOf 4 (p .period .end .0))) (at + k) (bytesOf 4 (kilowatts p))) e)
+
+pub pair-made : (z : List ℕ) (at : ℕ) (p : Part) {y x : List ℕ} {k : Kilowatt} → y ≡ put z at (bytesOf 4 (p .period .end .0)) → k ≡ sizeOf (p .power) → x ≡ put y (at + 4) (bytesOf 4 (k .0)) → x ≡ put z at (pairOf p)
+pair-made z at p {y} {x} {k} e f g = g ∙ rw (e, f) (pair-put z at p)
+
+pub row-made : (b s : List ℕ) {u : UnitHead} {h : Head} {x y : ℕ} → u ≡ unitHead b → h ≡ headOf s → x ≡ leadsTo (u .row) (h .«record_type») (h .qualification) → y ≡ reasonAfter (h .«record_type») (h .qualification) → _≡_ {A = Row} (record { state = x; qualification = y; since = h .period .start }) (rowAfter b s)
+row-made b s {u} {h} {x} {y} e f g k = rw (g, k, e, f) refl
+
+-- one byte more, one pair more
+pub bytes-turn : (z : List ℕ) (at from j : ℕ) (s : List ℕ) → put (put z at (series (u8At s) from j)) (at + j) (u8At s (from + j) ∷ []) ≡ put z at (series (u8At s) from (j + 1))
+bytes-turn z at from j s =
+    sym (ap (put z at) (series-snoc (u8At s) from j)
+    ∙ put-append (series (u8At s) from j) (u8At s (from + j) ∷ []) z at
+    ∙ ap (λ (k : ℕ). put (put z at (series (u8At s) from j)) (at + k) (u8At s (from + j) ∷ [])) (series-length (u8At s) from j))
+
+pub bytes-next : (z : List ℕ) (at from j : ℕ) (s : List ℕ) {y x : List ℕ} {v : ℕ} → y ≡ put z at (series (u8At s) from j) → v ≡ u8At s (from + j) → x ≡ put y (at + j) (v ∷ []) → x ≡ put z at (series (u8At s) from (j + 1))
+bytes-next z at from j s {y} {x} {v} e f g = g ∙ rw (e, f) (bytes-turn z at from j s)
+
+pairs-snoc : (ps : List Part) (p : Part) → pairBytes (ps ++ (p ∷ [])) ≡ pairBytes ps ++ pairOf p
+unfolding pairBytes pairOf
+pairs-snoc [] p = append-nil _
+pairs-snoc (q ∷ ps) p = rw (pairs-snoc ps p) (sym (append-assoc (bytesOf 4 (q .period .end .0) ++ bytesOf 4 (kilowatts q)) (pairBytes ps) _))
+
+pub pairs-turn : (z : List ℕ) (j : ℕ) (s : List ℕ) → put (put z 88 (pairBytes (series (partAt s) 0 j))) (88 + 8 * j) (pairOf (partAt s j)) ≡ put z 88 (pairBytes (series (partAt s) 0 (j + 1)))
+pairs-turn z j s =
+    let ps : List Part = series (partAt s) 0 j in
+    let k : length (pairBytes ps) ≡ 8 * j = pairs-length ps ∙ ap (λ (n : ℕ). 8 * n) (series-length (partAt s) 0 j) in
+    let last : partAt s (0 + j) ≡ partAt s j = ap (partAt s) (zero-add j) in
+    sym (ap (λ (l : List Part). put z 88 (pairBytes l)) (series-snoc (partAt s) 0 j ∙ ap (λ (q : Part). ps ++ (q ∷ [])) last)
+    ∙ ap (put z 88) (pairs-snoc ps (partAt s j))
+    ∙ put-append (pairBytes ps) (pairOf (partAt s j)) z 88
+    ∙ ap (λ (n : ℕ). put (put z 88 (pairBytes ps)) (88 + n) (pairOf (partAt s j))) k)
+
+pub pairs-next : (z : List ℕ) (j : ℕ) (s : List ℕ) {y x : List ℕ} {p : Part} → y ≡ put z 88 (pairBytes (series (partAt s) 0 j)) → p ≡ partAt s j → x ≡ put y (88 + 8 * j) (pairOf p) → x ≡ put z 88 (pairBytes (series (partAt s) 0 (j + 1)))
+pairs-next z j s {y} {x} {p} e f g = g ∙ rw (e, f) (pairs-turn z j s)
+
+-- a slot's first 88 bytes
+unfoldable front : List ℕ → List ℕ
+front s = codesBytes (headOf s) ++ series (u8At s) 16 16 ++ timesBytes (headOf s) ++ zeros 50
+
+front-put : (s : List ℕ) → put (put (put (zeros 888) 0 (codesBytes (headOf s))) 8 (series (u8At s) 16 16)) 24 (timesBytes (headOf s)) ≡ front s ++ zeros 800
+unfolding front put zeros bytesOf series codesBytes timesBytes
+front-put s = refl
+
+front-length : (s : List ℕ) → length (front s) ≡ 88
+unfolding front zeros bytesOf series codesBytes timesBytes
+front-length s = refl
+
+blank-room : (xs vs : List ℕ) (n m : ℕ) → length xs ≡ n → length vs ≤ m → n + length vs ≤ length (xs ++ zeros m)
+unfolding zeros
+blank-room xs vs n m e h = rw (length-append xs, length-replicate) (omega arith)
+
+blank-put : (xs vs : List ℕ) (n m : ℕ) → length xs ≡ n → length vs ≤ m → put (xs ++ zeros m) n vs ≡ xs ++ vs ++ zeros (m - length vs)
+unfolding put
+blank-put xs vs n m e h =
+    rw (
+      sets-eq vs (xs ++ zeros m) n (blank-room xs vs n m e h),
+      take-at xs (zeros m) n e,
+      ← drop-drop (length vs) n (xs ++ zeros m),
+      drop-at xs (zeros m) n e,
+      drop-zeros (length vs) m,
+    )
+
+slot-front : (s : List ℕ) → front s ++ pairBytes (partsOf s) ++ zeros (slotSize - (88 + 8 * length (partsOf s))) ≡ slotBytes (recordOf s) (partsOf s)
+unfolding front zeros bytesOf series codesBytes timesBytes slotBytes
+slot-front s = rw (series-length (partAt s) 0 (partCount s))
+
+pub slot-put : (s : List ℕ) → partCount s ≤ 100 → put (put (put (put (zeros 888) 0 (codesBytes (headOf s))) 8 (series (u8At s) 16 16)) 24 (timesBytes (headOf s))) 88 (pairBytes (partsOf s)) ≡ slotBytes (recordOf s) (partsOf s)
+slot-put s few =
+    let n : length (partsOf s) ≡ partCount s = series-length (partAt s) 0 (partCount s) in
+    let k : length (pairBytes (partsOf s)) ≡ 8 * length (partsOf s) = pairs-length (partsOf s) in
+    let r : 800 - length (pairBytes (partsOf s)) ≡ slotSize - (88 + 8 * length (partsOf s)) = omega arith in
+    ap (λ (z : List ℕ). put z 88 (pairBytes (partsOf s))) (front-put s)
+    ∙ blank-put (front s) (pairBytes (partsOf s)) 88 800 (front-length s) (omega arith)
+    ∙ ap (λ (m : ℕ). front s ++ pairBytes (partsOf s) ++ zeros m) r
+    ∙ slot-front s
+
+-- a slot written by five calls
+pub slot-written : (s z : List ℕ) {a b c d e : List ℕ} {h : Head} → h ≡ headOf s → a ≡ zeros (length z) → b ≡ put a 0 (codesBytes h) → c ≡ put b 8 (series (u8At s) 16 16) → d ≡ put c 24 (timesBytes h) → e ≡ put d 88 (pairBytes (series (partAt s) 0 (h .«part_count»))) → length z ≡ 888 → partCount s ≤ 100 → e ≡ slotBytes (recordOf s) (partsOf s)
+slot-written s z {a} {b} {c} {d} {e} {h} f g i j k m l few =
+    m ∙ rw (k, j, i, g, l, f) (slot-put s few)
+
+-- the three ways of a slot
+pub made-written : (s : List ℕ) (kept : Bool) (z : List ℕ) {t : Bool} {x : List ℕ} → t ≡ true → x ≡ slotBytes (recordOf s) (partsOf s) → x ≡ slotMade s t kept z
+unfolding slotMade pick
+made-written s kept z e f = rw e f
+
+pub made-kept : (s z : List ℕ) (kept : Bool) {t : Bool} → t ≡ false → not kept ≡ false → z ≡ slotMade s t kept z
+unfolding slotMade pick
+made-kept s z kept {t} e f = rw (e, not-false kept f) refl
+
+pub made-zeros : (s z : List ℕ) (kept : Bool) {t : Bool} {x : List ℕ} → length z ≡ 888 → t ≡ false → not kept ≡ true → x ≡ zeros (length z) → x ≡ slotMade s t kept z
+unfolding slotMade pick
+made-zeros s z kept {t} l e f g = g ∙ rw (e, not-true kept f, l) refl
+
+pub head-few : (s : List ℕ) {h : Head} → h ≡ headOf s → partCount s ≤ 100 → h .«part_count» ≤ 100
+head-few s e few = rw e few

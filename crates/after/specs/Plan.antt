@@ -1,0 +1,53 @@
+-- What is decided of a block before it is written, and the block that this gives.
+use Prim.Native.Nat.{ℕ, _+_, _*_}
+use mathlib.Core.List.{List, [], _∷_, _++_}
+use mathlib.Core.Bool.{Bool, true, false, _&&_}
+use lib.Dec.{leb, eqb}
+use lib.ListN.{length, getD}
+use Rattle.fields.specs.Fields.{bytesOf}
+use Rattle.fields.specs.Lists.{pick, joined, part, put}
+use Rattle.report.specs.declared.Head.{Head}
+use Rattle.report.specs.declared.Part.{Part}
+use Rattle.report.specs.Report.{partsOf, partCount}
+use Rattle.rules.specs.declared.Row.{Row}
+use Rattle.rules.specs.Block.{headSize, slotSize, slotCount, blockSize, slotMark, zeros, slotAt}
+use Rattle.rules.specs.Questions.{recordOf, stampOf, kilowatts}
+use Rattle.rules.specs.After.{rowAfter, putRow, slotBytes}
+use Rattle.after.specs.declared.Plan.{Plan}
+
+-- bytes 0 to 7 of a slot, and 24 to 37
+unfoldable pub codesBytes : Head → List ℕ
+codesBytes h =
+    bytesOf 2 slotMark ++ (h .«record_type» ∷ h .direction ∷ h .qualification ∷ h .«start_mark» ∷ []) ++ bytesOf 2 (h .ordinal)
+
+unfoldable pub timesBytes : Head → List ℕ
+timesBytes h =
+    bytesOf 4 (h .stamp .0) ++ bytesOf 4 (h .period .start .0) ++ bytesOf 4 (h .period .end .0)
+    ++ bytesOf 2 (h .«part_count»)
+
+unfoldable pub pairOf : Part → List ℕ
+pairOf p = bytesOf 4 (p .period .end .0) ++ bytesOf 4 (kilowatts p)
+
+-- a slot z that is written, kept or set to zeros
+unfoldable pub slotMade : List ℕ → Bool → Bool → List ℕ → List ℕ
+slotMade s written kept z = pick written (slotBytes (recordOf s) (partsOf s)) (pick kept z (zeros slotSize))
+
+abbrev pub slotPlanned : List ℕ → List ℕ → Plan → ℕ → List ℕ
+slotPlanned b s plan i = slotMade s (eqb i (plan .written)) (getD (plan .keep) i false) (slotAt b i)
+
+-- a head with its last stamp and, at a state change, its row
+unfoldable pub headMade : List ℕ → Bool → Row → ℕ → List ℕ
+headMade head changes row stamp = put (pick changes (putRow head row) head) 16 (bytesOf 4 stamp)
+
+abbrev pub headPlanned : List ℕ → List ℕ → Plan → List ℕ
+headPlanned b s plan = headMade (part b 0 headSize) (plan .changes) (rowAfter b s) (stampOf s)
+
+unfoldable pub slotsPlanned : List ℕ → List ℕ → Plan → List ℕ
+slotsPlanned b s plan = part b 0 headSize ++ joined (slotPlanned b s plan) 0 slotCount
+
+-- a block of another length, or after a report of more than 100 parts, is left as it is
+unfoldable pub planApplied : List ℕ → List ℕ → Plan → List ℕ
+planApplied b s plan =
+    pick (eqb (length b) blockSize && leb (partCount s) 100)
+    (headPlanned b s plan ++ joined (slotPlanned b s plan) 0 slotCount)
+    b

@@ -1,0 +1,170 @@
+// The block of an accepted report: a plan that was decided before is written.
+use fields::put_u8;
+use fields::put_u16;
+use quantities::Minute;
+use quantities::put_minute;
+use report::Head;
+use report::Part;
+use rules::Row;
+ghost use mathlib.Core.Path.{_≡_};
+ghost use Prim.Native.Nat.{_+_, _*_, _≤_, _<_};
+ghost use lib.ListN.{length};
+ghost use Rattle.fields.specs.Lists.{pick, series, put};
+ghost use Rattle.fields.specs.Fields.{u8At};
+ghost use Rattle.report.specs.Report.{partsOf, partCount, partAt};
+ghost use Rattle.rules.specs.Block.{zeros};
+ghost use Rattle.rules.specs.Questions.{recordOf};
+ghost use Rattle.rules.specs.After.{rowAfter, putRow, pairBytes, slotBytes};
+ghost use Rattle.after.specs.Plan.{codesBytes, timesBytes, pairOf, slotMade, headMade, slotsPlanned, planApplied};
+
+// The slots that keep their record, the slot written (8: none), and whether the row changes.
+pub struct Plan {
+    pub keep: [bool; 8],
+    pub written: u8,
+    pub changes: bool,
+}
+
+fn clear(z: &mut [u8])
+    ensures { λ _. ⌜ now (z .exit) ≡ zeros (length (now (z .entry))) ⌝ }
+{
+    for j in 0..z.len() {
+        z[j] = 0;
+    }
+}
+
+fn put_codes(z: &mut [u8], h: Head)
+    ensures { λ _. ⌜ now (z .exit) ≡ put (now (z .entry)) 0 (codesBytes h) ⌝ }
+{
+    put_u16(z, 0, 0x475A);
+    put_u8(z, 2, h.record_type);
+    put_u8(z, 3, h.direction);
+    put_u8(z, 4, h.qualification);
+    put_u8(z, 5, h.start_mark);
+    put_u16(z, 6, h.ordinal);
+}
+
+fn put_identifier(z: &mut [u8], report: &[u8])
+    ensures { λ _. ⌜ now (z .exit) ≡ put (now (z .entry)) 8 (series (u8At (now (report .entry))) 16 16) ⌝ }
+{
+    for j in 0..16usize {
+        put_u8(z, 8 + j, fields::u8_at(report, 16 + j));
+    }
+}
+
+fn put_times(z: &mut [u8], h: Head)
+    ensures { λ _. ⌜ now (z .exit) ≡ put (now (z .entry)) 24 (timesBytes h) ⌝ }
+{
+    put_minute(z, 24, h.stamp);
+    put_minute(z, 28, h.period.start);
+    put_minute(z, 32, h.period.end);
+    put_u16(z, 36, h.part_count);
+}
+
+// A part's end and its power.
+fn put_pair(z: &mut [u8], at: usize, p: Part)
+    requires { ⌜ at ≤ 65535 ⌝ }
+    ensures { λ _. ⌜ now (z .exit) ≡ put (now (z .entry)) at (pairOf p) ⌝ }
+{
+    put_minute(z, at, p.period.end);
+    quantities::put_kilowatt(z, at + 4, quantities::size_of(p.power));
+}
+
+fn put_pairs(z: &mut [u8], report: &[u8], k: u16)
+    requires { ⌜ k ≤ 100 ⌝ }
+    ensures { λ _. ⌜ now (z .exit) ≡ put (now (z .entry)) 88 (pairBytes (series (partAt (now (report .entry))) 0 k)) ⌝ }
+{
+    for j in 0..k {
+        put_pair(z, 88 + 8 * (j as usize), report::part_at(report, j));
+    }
+}
+
+fn write_slot(z: &mut [u8], report: &[u8])
+    requires { ⌜ length (now z) ≡ 888 ⌝ }
+    requires { ⌜ partCount (now report) ≤ 100 ⌝ }
+    ensures { λ _. ⌜ now (z .exit) ≡ slotBytes (recordOf (now (report .entry))) (partsOf (now (report .entry))) ⌝ }
+{
+    let h = report::head_of(report);
+    clear(z);
+    put_codes(z, h);
+    put_identifier(z, report);
+    put_times(z, h);
+    put_pairs(z, report, h.part_count);
+}
+
+fn set_slot(z: &mut [u8], report: &[u8], written: bool, kept: bool)
+    requires { ⌜ length (now z) ≡ 888 ⌝ }
+    requires { ⌜ partCount (now report) ≤ 100 ⌝ }
+    ensures { λ _. ⌜ now (z .exit) ≡ slotMade (now (report .entry)) written kept (now (z .entry)) ⌝ }
+{
+    if written {
+        write_slot(z, report);
+    } else if !kept {
+        clear(z);
+    }
+}
+
+fn set_slots(b: &mut [u8], report: &[u8], plan: Plan)
+    requires { ⌜ length (now b) ≡ 7168 ⌝ }
+    requires { ⌜ partCount (now report) ≤ 100 ⌝ }
+    ensures { λ _. ⌜ now (b .exit) ≡ slotsPlanned (now (b .entry)) (now (report .entry)) plan ⌝ }
+{
+    for i in 0..8u8 {
+        let a = 64 + 888 * (i as usize);
+        let e = a + 888;
+        set_slot(
+            &mut b[a..e],
+            report,
+            i == plan.written,
+            plan.keep[i as usize],
+        );
+    }
+}
+
+// The row after a state change.
+fn row_after(b: &[u8], report: &[u8]) -> Row
+    ensures { λ r. ⌜ r ≡ rowAfter (now (b .entry)) (now (report .entry)) ⌝ }
+{
+    let row = block::unit_head(b).row;
+    let h = report::head_of(report);
+    let since = h.period.start;
+    Row {
+        state: records::leads_to(row, h.record_type, h.qualification),
+        qualification: records::reason_after(h.record_type, h.qualification),
+        since,
+    }
+}
+
+fn put_row(b: &mut [u8], row: Row)
+    ensures { λ _. ⌜ now (b .exit) ≡ putRow (now (b .entry)) row ⌝ }
+{
+    put_u8(b, 7, row.state);
+    put_u8(b, 8, row.qualification);
+    put_minute(b, 12, row.since);
+}
+
+fn change_row(b: &mut [u8], changes: bool, row: Row)
+    ensures { λ _. ⌜ now (b .exit) ≡ pick changes (putRow (now (b .entry)) row) (now (b .entry)) ⌝ }
+{
+    if changes {
+        put_row(b, row);
+    }
+}
+
+fn set_head(b: &mut [u8], changes: bool, row: Row, stamp: Minute)
+    ensures { λ _. ⌜ now (b .exit) ≡ headMade (now (b .entry)) changes row (stamp .0) ⌝ }
+{
+    change_row(b, changes, row);
+    put_minute(b, 16, stamp);
+}
+
+// Writes the plan. A block of another length, or after a report of more than 100 parts, is left as it is.
+pub fn apply(b: &mut [u8], report: &[u8], plan: Plan)
+    ensures { λ _. ⌜ now (b .exit) ≡ planApplied (now (b .entry)) (now (report .entry)) plan ⌝ }
+{
+    let h = report::head_of(report);
+    if (b.len() == 7168) & (h.part_count <= 100) {
+        let row = row_after(b, report);
+        set_slots(b, report, plan);
+        set_head(b, plan.changes, row, h.stamp);
+    }
+}

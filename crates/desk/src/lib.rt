@@ -1,0 +1,77 @@
+// The desk: set-up, and the answer to a report on the register.
+use after::Plan;
+use rules::Answer;
+ghost use mathlib.Core.Path.{_≡_};
+ghost use Prim.Native.Nat.{_≤_};
+ghost use lib.ListN.{length};
+ghost use Rattle.report.specs.Report.{partCount};
+ghost use Rattle.rules.specs.Judge.{refusal as refusalOf, judge as judged};
+ghost use Rattle.rules.specs.Desk.{setUp, question3, answerTo};
+
+fn refusal(number: u8) -> Answer
+    ensures { λ r. ⌜ r ≡ refusalOf number ⌝ }
+{
+    Answer {
+        number,
+        warnings: 0,
+    }
+}
+
+// Questions 4 to 19 on the unit's own block, lent as a part of the register.
+fn judge_block(b: &mut [u8], report: &[u8]) -> Answer
+    requires { ⌜ (length (now b) ≡ 7168) × (partCount (now report) ≤ 100) ⌝ }
+    ensures { λ r. ⌜ r ≡ judged (now (b .entry)) (now (report .entry)) .answer ⌝ }
+    ensures { λ _. ⌜ now (b .exit) ≡ judged (now (b .entry)) (now (report .entry)) .after ⌝ }
+{
+    let number = judge::refusal_number(b, report);
+    if number != 0 {
+        return refusal(number);
+    }
+    let outcome = judge::decide(b, report);
+    let keep = outcome.keep;
+    let plan = Plan {
+        keep,
+        written: outcome.written,
+        changes: outcome.changes,
+    };
+    after::apply(b, report, plan);
+    let warnings = judge::warnings_on(b, report, outcome.left);
+    Answer {
+        number: 0,
+        warnings,
+    }
+}
+
+// Question 3.
+fn is_addressed(register: &[u8], report: &[u8]) -> bool
+    ensures { λ r. ⌜ r ≡ question3 (now (register .entry)) (now (report .entry)) ⌝ }
+{
+    let h = report::head_of(report);
+    let unit = h.unit as usize;
+    if (1 <= unit) & (unit <= register.len() / 7168) {
+        let b = block::stretch(register, 7168 * (unit - 1), 7168);
+        block::unit_head(b).owner == h.owner
+    } else {
+        false
+    }
+}
+
+// The answer to a report: questions 1 to 19 and the warnings. A refusal leaves every byte.
+pub fn answer_report(register: &mut [u8], report: &[u8]) -> Answer
+    ensures { λ r. ⌜ r ≡ answerTo (now (register .entry)) (now (report .entry)) .answer ⌝ }
+    ensures { λ _. ⌜ now (register .exit) ≡ answerTo (now (register .entry)) (now (report .entry)) .after ⌝ }
+{
+    if !block::register_whole(register) {
+        return refusal(1);
+    }
+    if !report::is_whole(report) {
+        return refusal(2);
+    }
+    if !is_addressed(register, report) {
+        return refusal(3);
+    }
+    let unit = report::head_of(report).unit as usize;
+    let a = 7168 * (unit - 1);
+    let e = a + 7168;
+    judge_block(&mut register[a..e], report)
+}
