@@ -3,15 +3,15 @@ use Prim.Native.Nat.{ℕ, zero, suc, _+_, _*_, _-_, _≤_, _<_}
 use mathlib.Core.Path.{_≡_, refl, ap, sym, _∙_}
 use mathlib.Core.Bool.{Bool, true, false, _&&_}
 use mathlib.Core.List.{List, [], _∷_, _++_, append-assoc}
-use mathlib.Core.Logic.{_⊎_, inl, inr, ⊎-elim}
+use mathlib.Core.Logic.{⊎-elim}
 use native.Mathlib.Omega.{arith}
 use native.Mathlib.Nat.{zero-add}
 use lib.Dec.{leb, ltb, eqb}
 use lib.ListN.{length, getD, take, drop, length-append, take-append-drop, length-drop}
-use lib.Seq.{sets-eq, take-add, take-at, drop-at, drop-drop, take-append-le, drop-append-le, take-all}
+use lib.Seq.{sets-eq, take-add, take-at, drop-at, drop-drop, take-append-le, drop-append-le}
 use borrow.Author.Tests.{lt-ltb, le-ltb, eq-eqb, le-leb, eqb-true, leb-true}
 use Rattle.fields.specs.Fields.{u8At, bytesOf}
-use Rattle.fields.specs.Lists.{pick, series, joined, part, put}
+use Rattle.fields.specs.Lists.{pick, joined, part, put}
 use Rattle.fields.proofs.Bools.{pick-elim, lt-or-le, and-left, and-right}
 use Rattle.fields.proofs.Stretches.{part-length, part-after, part-lent, lent-back, put-length}
 use Rattle.fields.proofs.Joined.{joined-same, joined-length, part-joined, put-joined}
@@ -20,15 +20,15 @@ use Rattle.fields.proofs.Tests.{series-length}
 use Rattle.report.specs.declared.Head.{Head}
 use Rattle.report.specs.Report.{headOf, partsOf, partCount, partAt}
 use Rattle.rules.specs.declared.Row.{Row}
-use Rattle.rules.specs.Block.{headSize, slotSize, slotCount, blockSize, zeros, slotAt}
+use Rattle.rules.specs.Block.{headSize, slotSize, slotCount, blockSize, slotAt}
 use Rattle.rules.specs.Questions.{recordOf, stampOf}
-use Rattle.rules.specs.After.{rowAfter, putRow, slotBytes}
+use Rattle.rules.specs.After.{rowAfter, putRow}
 use Rattle.rules.proofs.Slots.{slot-length}
 use Rattle.rules.proofs.Holding.{zeros-length}
 use Rattle.rules.proofs.Heads.{row-length}
 use Rattle.rules.proofs.Afterwards.{slot-size}
 use Rattle.after.specs.declared.Plan.{Plan}
-use Rattle.after.specs.Plan.{slotMade, slotPlanned, headMade, headPlanned, slotsPlanned, planApplied}
+use Rattle.after.specs.Plan.{slotMade, slotPlanned, headMade, slotsPlanned, planApplied}
 
 -- what is put in the first of two lists, or in the second
 pub put-first : (xs ys vs : List ℕ) (at : ℕ) → at + length vs ≤ length xs → put (xs ++ ys) at vs ≡ put xs at vs ++ ys

@@ -1,14 +1,13 @@
 -- A plan that says what the definitions of paper 01 say gives the block afterwards. Assumes nothing.
 use Prim.Native.Nat.{ℕ, _≤_, _<_}
-use mathlib.Core.Path.{_≡_, refl, ap, sym, _∙_}
-use mathlib.Core.Bool.{Bool, true, false, _&&_}
+use mathlib.Core.Path.{_≡_, refl, ap, _∙_}
+use mathlib.Core.Bool.{Bool, false}
 use mathlib.Core.List.{List, _++_}
 use native.Mathlib.Omega.{arith}
 use native.Mathlib.Nat.{zero-add}
-use lib.Dec.{leb, eqb}
 use lib.ListN.{length, getD}
 use borrow.Author.Tests.{eq-eqb, le-leb}
-use Rattle.fields.specs.Lists.{pick, series, joined}
+use Rattle.fields.specs.Lists.{pick, series}
 use Rattle.fields.proofs.Joined.{joined-same}
 use Rattle.fields.proofs.Tests.{series-at}
 use Rattle.report.specs.Report.{partCount}

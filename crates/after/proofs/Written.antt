@@ -1,11 +1,11 @@
 -- A slot that is written by puts over zeros. Assumes nothing.
-use Prim.Native.Nat.{ℕ, zero, suc, _+_, _*_, _-_, _≤_, _<_}
+use Prim.Native.Nat.{ℕ, zero, suc, _+_, _*_, _-_, _≤_}
 use mathlib.Core.Path.{_≡_, refl, ap, sym, _∙_}
 use mathlib.Core.Bool.{Bool, true, false, not}
 use mathlib.Core.List.{List, [], _∷_, _++_, append-assoc, append-nil}
 use native.Mathlib.Omega.{arith}
 use native.Mathlib.Nat.{zero-add}
-use lib.ListN.{length, getD, set, take, drop, replicate, length-append, length-replicate}
+use lib.ListN.{length, drop, length-append, length-replicate}
 use lib.Seq.{sets-eq, take-at, drop-at, drop-drop}
 use borrow.Author.Tests.{not-true, not-false}
 use Rattle.fields.specs.Fields.{u8At, bytesOf}
@@ -24,9 +24,9 @@ use Rattle.rules.specs.Block.{unitHead, slotMark, slotSize, zeros}
 use Rattle.rules.specs.Questions.{leadsTo, reasonAfter, recordOf, kilowatts}
 use Rattle.rules.specs.After.{rowAfter, pairBytes, slotBytes, putRow}
 use Rattle.rules.proofs.Slots.{pairs-length}
-use Rattle.after.specs.Plan.{codesBytes, timesBytes, pairOf, slotMade, headMade}
+use Rattle.after.specs.Plan.{codesBytes, timesBytes, pairOf, slotMade}
 
-pub drop-zeros : (m n : ℕ) → drop m (zeros n) ≡ zeros (n - m)
+drop-zeros : (m n : ℕ) → drop m (zeros n) ≡ zeros (n - m)
 unfolding zeros
 drop-zeros zero n =
     let e : n - 0 ≡ n = omega arith in

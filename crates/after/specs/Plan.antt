@@ -1,7 +1,7 @@
 -- What is decided of a block before it is written, and the block that this gives.
-use Prim.Native.Nat.{ℕ, _+_, _*_}
+use Prim.Native.Nat.{ℕ}
 use mathlib.Core.List.{List, [], _∷_, _++_}
-use mathlib.Core.Bool.{Bool, true, false, _&&_}
+use mathlib.Core.Bool.{Bool, false, _&&_}
 use lib.Dec.{leb, eqb}
 use lib.ListN.{length, getD}
 use Rattle.fields.specs.Fields.{bytesOf}

@@ -65,8 +65,9 @@ fn put_pair(z: &mut [u8], at: usize, p: Part)
     requires { ⌜ at ≤ 65535 ⌝ }
     ensures { λ _. ⌜ now (z .exit) ≡ put (now (z .entry)) at (pairOf p) ⌝ }
 {
+    let next = at + 4;
     put_minute(z, at, p.period.end);
-    quantities::put_kilowatt(z, at + 4, quantities::size_of(p.power));
+    quantities::put_kilowatt(z, next, quantities::size_of(p.power));
 }
 
 fn put_pairs(z: &mut [u8], report: &[u8], k: u16)

@@ -7,6 +7,7 @@ ghost use lib.ListN.{length};
 ghost use Rattle.report.specs.Report.{partCount};
 ghost use Rattle.rules.specs.Judge.{refusal as refusalOf, judge as judged};
 ghost use Rattle.rules.specs.Desk.{setUp, question3, answerTo};
+ghost use Rattle.desk.specs.Packed.{packed};
 
 fn refusal(number: u8) -> Answer
     ensures { λ r. ⌜ r ≡ refusalOf number ⌝ }
@@ -74,4 +75,23 @@ pub fn answer_report(register: &mut [u8], report: &[u8]) -> Answer
     let a = 7168 * (unit - 1);
     let e = a + 7168;
     judge_block(&mut register[a..e], report)
+}
+
+// The C interface: 0, 20 or 21.
+#[no_mangle]
+pub extern "C" fn desk_set_up(roster: &[u8], register: &mut [u8]) -> u32
+    ensures { λ r. ⌜ r ≡ setUp (now (roster .entry)) (now (register .entry)) .number ⌝ }
+    ensures { λ _. ⌜ now (register .exit) ≡ setUp (now (roster .entry)) (now (register .entry)) .after ⌝ }
+{
+    setup::set_up(roster, register) as u32
+}
+
+// The C interface: the number and 256 times the warnings.
+#[no_mangle]
+pub extern "C" fn desk_answer(register: &mut [u8], report: &[u8]) -> u32
+    ensures { λ r. ⌜ r ≡ packed (answerTo (now (register .entry)) (now (report .entry)) .answer) ⌝ }
+    ensures { λ _. ⌜ now (register .exit) ≡ answerTo (now (register .entry)) (now (report .entry)) .after ⌝ }
+{
+    let a = answer_report(register, report);
+    a.number as u32 + 256 * (a.warnings as u32)
 }

@@ -6,10 +6,19 @@ use Rattle.after.proofs.apply.Statement.{statement}
 use Rattle.after.proofs.apply.Tie as tie
 
 set-slots-requires : tie.Need-set-slots-requires
-set-slots-requires c κs = tested (c .before .before .before .before .before .before .before .before .args .b .now) _ (c .before .before .before .before .before .head-of .ensures) (c .before .before .before .if1 .taken)
+set-slots-requires c κs =
+    let test = c .before .before .before in
+    let head = test .before .before in
+    tested (head .before .before .before .args .b .now) _ (head .head-of .ensures) (test .if1 .taken)
 
 returns : tie.Need-returns
-returns c = let k = tested (c .before .before .before .before .before .before .before .before .before .before .before .before .before .before .before .args .b .now) _ (c .before .before .before .before .before .before .before .before .before .before .before .before .head-of .ensures) (c .before .before .before .before .before .before .before .before .before .before .if1 .taken) in applied _ _ _ (k .0) (k .1) (c .before .before .before .before .before .before .before .before .row-after .ensures) (ap (λ (h : Head). h .stamp .0) (c .before .before .before .before .before .before .before .before .before .before .before .before .head-of .ensures)) (c .before .before .before .before .before .before .set-slots .ensures) (c .before .before .set-head .ensures)
+returns c =
+    let slots = c .before .before .before .before .before .before in
+    let test = slots .before .before .before .before in
+    let head = test .before .before in
+    let k = tested (head .before .before .before .args .b .now) _ (head .head-of .ensures) (test .if1 .taken) in
+    applied _ _ _ (k .0) (k .1) (slots .before .before .row-after .ensures) (ap (λ (h : Head). h .stamp .0) (head .head-of .ensures))
+    (slots .set-slots .ensures) (c .before .before .set-head .ensures)
 
 returns-2 : tie.Need-returns-2
 returns-2 c = left-alone _ _ _ (c .before .before .head-of .ensures) (c .if1 .left)
