@@ -24,7 +24,7 @@ use Rattle.rules.specs.Block.{unitHead, slotMark, slotSize, zeros}
 use Rattle.rules.specs.Questions.{leadsTo, reasonAfter, recordOf, kilowatts}
 use Rattle.rules.specs.After.{rowAfter, pairBytes, slotBytes, putRow}
 use Rattle.rules.proofs.Slots.{pairs-length}
-use Rattle.after.specs.Plan.{codesBytes, timesBytes, pairOf, slotMade}
+use Rattle.after.specs.Plan.{codesBytes, timesBytes, pairOf, slotMade, headMade}
 
 drop-zeros : (m n : ℕ) → drop m (zeros n) ≡ zeros (n - m)
 unfolding zeros
@@ -52,11 +52,18 @@ pub times-put : (z : List ℕ) (h : Head) → put (put (put (put z 24 (bytesOf 4
 unfolding put bytesOf timesBytes
 times-put z h = refl
 
-pub row-put : (z : List ℕ) (row : Row) → put (put (put z 7 (row .state ∷ [])) 8 (row .qualification ∷ [])) 12 (bytesOf 4 (row .since .0)) ≡ putRow z row
+row-put : (z : List ℕ) (row : Row) → put (put (put z 7 (row .state ∷ [])) 8 (row .qualification ∷ [])) 12 (bytesOf 4 (row .since .0)) ≡ putRow z row
 unfolding put bytesOf putRow
 row-put z row = refl
 
-pub pair-put : (z : List ℕ) (at : ℕ) (p : Part) → put (put z at (bytesOf 4 (p .period .end .0))) (at + 4) (bytesOf 4 (kilowatts p)) ≡ put z at (pairOf p)
+pub row-written : (z : List ℕ) (row : Row) {x y w : List ℕ} → x ≡ put z 7 (row .state ∷ []) → y ≡ put x 8 (row .qualification ∷ []) → w ≡ put y 12 (bytesOf 4 (row .since .0)) → w ≡ putRow z row
+row-written z row {x} {y} {w} e f g = g ∙ rw (f, e) (row-put z row)
+
+pub head-written : (z : List ℕ) (changes : Bool) (row : Row) (stamp : ℕ) {x y : List ℕ} → x ≡ pick changes (putRow z row) z → y ≡ put x 16 (bytesOf 4 stamp) → y ≡ headMade z changes row stamp
+unfolding headMade
+head-written z changes row stamp e f = f ∙ ap (λ (l : List ℕ). put l 16 (bytesOf 4 stamp)) e
+
+pair-put : (z : List ℕ) (at : ℕ) (p : Part) → put (put z at (bytesOf 4 (p .period .end .0))) (at + 4) (bytesOf 4 (kilowatts p)) ≡ put z at (pairOf p)
 unfolding pairOf
 pair-put z at p =
     let e = bytes-length 4 (p .period .end .0) in
@@ -70,7 +77,7 @@ pub row-made : (b s : List ℕ) {u : UnitHead} {h : Head} {x y : ℕ} → u ≡ 
 row-made b s {u} {h} {x} {y} e f g k = rw (g, k, e, f) refl
 
 -- one byte more, one pair more
-pub bytes-turn : (z : List ℕ) (at from j : ℕ) (s : List ℕ) → put (put z at (series (u8At s) from j)) (at + j) (u8At s (from + j) ∷ []) ≡ put z at (series (u8At s) from (j + 1))
+bytes-turn : (z : List ℕ) (at from j : ℕ) (s : List ℕ) → put (put z at (series (u8At s) from j)) (at + j) (u8At s (from + j) ∷ []) ≡ put z at (series (u8At s) from (j + 1))
 bytes-turn z at from j s =
     sym (ap (put z at) (series-snoc (u8At s) from j)
     ∙ put-append (series (u8At s) from j) (u8At s (from + j) ∷ []) z at
@@ -84,7 +91,7 @@ unfolding pairBytes pairOf
 pairs-snoc [] p = append-nil _
 pairs-snoc (q ∷ ps) p = rw (pairs-snoc ps p) (sym (append-assoc (bytesOf 4 (q .period .end .0) ++ bytesOf 4 (kilowatts q)) (pairBytes ps) _))
 
-pub pairs-turn : (z : List ℕ) (j : ℕ) (s : List ℕ) → put (put z 88 (pairBytes (series (partAt s) 0 j))) (88 + 8 * j) (pairOf (partAt s j)) ≡ put z 88 (pairBytes (series (partAt s) 0 (j + 1)))
+pairs-turn : (z : List ℕ) (j : ℕ) (s : List ℕ) → put (put z 88 (pairBytes (series (partAt s) 0 j))) (88 + 8 * j) (pairOf (partAt s j)) ≡ put z 88 (pairBytes (series (partAt s) 0 (j + 1)))
 pairs-turn z j s =
     let ps : List Part = series (partAt s) 0 j in
     let k : length (pairBytes ps) ≡ 8 * j = pairs-length ps ∙ ap (λ (n : ℕ). 8 * n) (series-length (partAt s) 0 j) in
@@ -128,7 +135,7 @@ slot-front : (s : List ℕ) → front s ++ pairBytes (partsOf s) ++ zeros (slotS
 unfolding front zeros bytesOf series codesBytes timesBytes slotBytes
 slot-front s = rw (series-length (partAt s) 0 (partCount s))
 
-pub slot-put : (s : List ℕ) → partCount s ≤ 100 → put (put (put (put (zeros 888) 0 (codesBytes (headOf s))) 8 (series (u8At s) 16 16)) 24 (timesBytes (headOf s))) 88 (pairBytes (partsOf s)) ≡ slotBytes (recordOf s) (partsOf s)
+slot-put : (s : List ℕ) → partCount s ≤ 100 → put (put (put (put (zeros 888) 0 (codesBytes (headOf s))) 8 (series (u8At s) 16 16)) 24 (timesBytes (headOf s))) 88 (pairBytes (partsOf s)) ≡ slotBytes (recordOf s) (partsOf s)
 slot-put s few =
     let n : length (partsOf s) ≡ partCount s = series-length (partAt s) 0 (partCount s) in
     let k : length (pairBytes (partsOf s)) ≡ 8 * length (partsOf s) = pairs-length (partsOf s) in

@@ -7,12 +7,11 @@ use report::Head;
 use report::Part;
 use rules::Row;
 ghost use mathlib.Core.Path.{_≡_};
-ghost use Prim.Native.Nat.{_+_, _*_, _≤_, _<_};
+ghost use Prim.Native.Nat.{_≤_};
 ghost use lib.ListN.{length};
 ghost use Rattle.fields.specs.Lists.{pick, series, put};
 ghost use Rattle.fields.specs.Fields.{u8At};
 ghost use Rattle.report.specs.Report.{partsOf, partCount, partAt};
-ghost use Rattle.rules.specs.Block.{zeros};
 ghost use Rattle.rules.specs.Questions.{recordOf};
 ghost use Rattle.rules.specs.After.{rowAfter, putRow, pairBytes, slotBytes};
 ghost use Rattle.after.specs.Plan.{codesBytes, timesBytes, pairOf, slotMade, headMade, slotsPlanned, planApplied};
@@ -22,14 +21,6 @@ pub struct Plan {
     pub keep: [bool; 8],
     pub written: u8,
     pub changes: bool,
-}
-
-fn clear(z: &mut [u8])
-    ensures { λ _. ⌜ now (z .exit) ≡ zeros (length (now (z .entry))) ⌝ }
-{
-    for j in 0..z.len() {
-        z[j] = 0;
-    }
 }
 
 fn put_codes(z: &mut [u8], h: Head)
@@ -85,7 +76,7 @@ fn write_slot(z: &mut [u8], report: &[u8])
     ensures { λ _. ⌜ now (z .exit) ≡ slotBytes (recordOf (now (report .entry))) (partsOf (now (report .entry))) ⌝ }
 {
     let h = report::head_of(report);
-    clear(z);
+    block::clear(z);
     put_codes(z, h);
     put_identifier(z, report);
     put_times(z, h);
@@ -100,7 +91,7 @@ fn set_slot(z: &mut [u8], report: &[u8], written: bool, kept: bool)
     if written {
         write_slot(z, report);
     } else if !kept {
-        clear(z);
+        block::clear(z);
     }
 }
 

@@ -1,11 +1,7 @@
-use Rattle.after.specs.Plan.{headMade}
+use Rattle.after.proofs.Written.{head-written}
 use borrow.Author.Needs.{needs}
 use Rattle.after.proofs.set_head.Statement.{statement}
 use Rattle.after.proofs.set_head.Tie as tie
-
-returns : tie.Need-returns
-unfolding headMade
-returns c = cc
 
 pub set-head-spec : {M : Type 1} → statement M
 set-head-spec =
@@ -14,4 +10,4 @@ set-head-spec =
     (λ c κs. search needs)
     (λ c κs. search needs)
     (λ c. search needs)
-    returns)
+    (λ c. head-written _ _ _ _ (c .before .before .before .before .before .before .change-row .ensures) (c .before .before .put-minute .ensures)))
