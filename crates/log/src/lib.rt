@@ -1,4 +1,5 @@
 // The shift log: a report's line and the totals as bytes, what a report adds to the log, and how the input is read.
+// No line is longer than 128 bytes; what a shorter text has no room for is left out.
 use quantities::Minute;
 use rules::Answer;
 ghost use mathlib.Core.Path.{_≡_};
@@ -91,6 +92,7 @@ fn put_unit(text: &mut [u8], at: usize, number: u8, unit: u16) -> usize
 // The date, or "-".
 fn put_stamp(text: &mut [u8], at: usize, number: u8, stamp: Minute) -> usize
     requires { ⌜ at ≤ 128 ⌝ }
+    ensures { λ r. ⌜ r ≤ at + 17 ⌝ }
     ensures { λ r. ⌜ r ≡ at + length (stampText number stamp ++ lineFeed) ⌝ }
     ensures { λ _. ⌜ now (text .exit) ≡ put (now (text .entry)) at (stampText number stamp ++ lineFeed) ⌝ }
 {
@@ -106,6 +108,7 @@ fn put_stamp(text: &mut [u8], at: usize, number: u8, stamp: Minute) -> usize
 
 // The line of a report with its answer, at the start of the text; its length.
 pub fn put_line(text: &mut [u8], line: u64, report: &[u8], a: Answer) -> usize
+    ensures { λ r. ⌜ r ≤ 128 ⌝ }
     ensures { λ r. ⌜ r ≡ length (logLine line (now (report .entry)) a) ⌝ }
     ensures { λ _. ⌜ now (text .exit) ≡ put (now (text .entry)) 0 (logLine line (now (report .entry)) a) ⌝ }
 {
@@ -118,6 +121,7 @@ pub fn put_line(text: &mut [u8], line: u64, report: &[u8], a: Answer) -> usize
 }
 
 pub fn put_totals(text: &mut [u8], t: Totals) -> usize
+    ensures { λ r. ⌜ r ≤ 128 ⌝ }
     ensures { λ r. ⌜ r ≡ length (totalsLine t) ⌝ }
     ensures { λ _. ⌜ now (text .exit) ≡ put (now (text .entry)) 0 (totalsLine t) ⌝ }
 {
@@ -129,6 +133,7 @@ pub fn put_totals(text: &mut [u8], t: Totals) -> usize
 }
 
 pub fn put_header(text: &mut [u8]) -> usize
+    ensures { λ r. ⌜ r ≤ 128 ⌝ }
     ensures { λ r. ⌜ r ≡ length logHeader ⌝ }
     ensures { λ _. ⌜ now (text .exit) ≡ put (now (text .entry)) 0 logHeader ⌝ }
 {
@@ -137,6 +142,7 @@ pub fn put_header(text: &mut [u8]) -> usize
 
 // What is printed where set-up refuses the roster.
 pub fn put_fault(text: &mut [u8], number: u8) -> usize
+    ensures { λ r. ⌜ r ≤ 128 ⌝ }
     ensures { λ r. ⌜ r ≡ length (faultLine number) ⌝ }
     ensures { λ _. ⌜ now (text .exit) ≡ put (now (text .entry)) 0 (faultLine number) ⌝ }
 {
@@ -180,6 +186,7 @@ pub fn at_start() -> Progress
 
 // Answers a report on the register, and puts its line at the start of the text.
 pub fn log_report(register: &mut [u8], report: &[u8], so_far: Progress, text: &mut [u8]) -> Logged
+    ensures { λ r. ⌜ r .length ≤ 128 ⌝ }
     ensures { λ r. ⌜ r ≡ loggedAfter «so_far» (now (report .entry)) (answerTo (now (register .entry)) (now (report .entry)) .answer) ⌝ }
     ensures { λ _. ⌜ now (text .exit) ≡ put (now (text .entry)) 0 (nextLine «so_far» (now (report .entry)) (answerTo (now (register .entry)) (now (report .entry)) .answer)) ⌝ }
     ensures { λ _. ⌜ now (register .exit) ≡ answerTo (now (register .entry)) (now (report .entry)) .after ⌝ }

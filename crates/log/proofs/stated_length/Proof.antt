@@ -6,41 +6,19 @@ use Rattle.log.proofs.Counts.{stated-sizes, stated, not-stated}
 use borrow.Author.Needs.{needs}
 use Rattle.log.proofs.stated_length.Statement.{statement}
 use Rattle.log.proofs.stated_length.Tie as tie
-use Rattle.log.proofs.stated_length.Reads as reads
-use Rattle.log.proofs.stated_length.Lts as lts
-use Rattle.report.proofs.head_of.Reads as head-of-reads
 
--- src/lib.rt:213:9
-head-of-requires : tie.Need-head-of-requires
-head-of-requires c κs = search needs
-
--- src/lib.rt:215:20
-cast-result : tie.Need-cast-result
-cast-result c = search needs
-
--- src/lib.rt:215:14
-mul-result : tie.Need-mul-result
-mul-result c = search needs
-
--- src/lib.rt:215:9
-add-result : tie.Need-add-result
-add-result c = search needs
-
--- src/lib.rt:215:46
 cast-result-2 : tie.Need-cast-result-2
 cast-result-2 c =
     let h = c .before .before .before .before .before .head-of .result in
     let sizes = stated-sizes [] (h .«part_count») (h .«text_length») (c .before .before .if1 .taken) in
     omega (arith, sizes .1)
 
--- src/lib.rt:215:9
 add-result-2 : tie.Need-add-result-2
 add-result-2 c =
     let h = c .before .before .before .before .before .head-of .result in
     let sizes = stated-sizes [] (h .«part_count») (h .«text_length») (c .before .before .if1 .taken) in
     omega (arith, sizes .0, sizes .1)
 
--- src/lib.rt:209:1
 returns : tie.Need-returns
 returns c =
     let h = c .before .before .before .before .before .head-of .result in
@@ -49,7 +27,6 @@ returns c =
     let head = if .before .before .before .head-of .ensures in
     (stated _ _ _ (ap (λ (h : Head). h .«part_count») head) (ap (λ (h : Head). h .«text_length») head) (if .if1 .taken), (omega arith, omega (arith, sizes .0, sizes .1)))
 
--- src/lib.rt:209:1
 returns-2 : tie.Need-returns-2
 returns-2 c =
     let head = c .before .before .before .head-of .ensures in
@@ -59,10 +36,10 @@ pub stated-length-spec : {M : Type 1} → statement M
 stated-length-spec =
     tie.close
     (tie.spec
-    head-of-requires
-    cast-result
-    mul-result
-    add-result
+    (λ c κs. search needs)
+    (λ c. search needs)
+    (λ c. search needs)
+    (λ c. search needs)
     cast-result-2
     add-result-2
     returns
