@@ -116,7 +116,20 @@ unreadable_file() {
   refused 1 "desk: can't be read: $room/closed" "${as[@]}" "$room/bare/desk" log "$room/closed"
 }
 
+# the page for the shift has the log of roster A and a row for each number
+page_for_the_shift() {
+  local page=docs/SHIFT-LOG.md number
+  told "$page has another log" cmp -s samples/roster-a.log <(sed '1,/^```$/d;/^```$/,$d' "$page")
+  for number in {1..22}; do
+    told "$page lacks answer $number" grep -q "^| $number |" <(sed -n '/^## Refusals/,/^## Warnings/p' "$page")
+  done
+  for number in 1 2 4 8; do
+    told "$page lacks warning $number" grep -q "^| $number |" <(sed -n '/^## Warnings/,$p' "$page")
+  done
+}
+
 bad_words
+page_for_the_shift
 help_lists_every_word
 samples
 bare_folder

@@ -61,7 +61,8 @@ pub fn steps() -> Vec<Step> {
     let mut steps = deratings_and_forced_work();
     steps.extend(faulty_forms());
     steps.extend(other_units());
-    steps.extend(stops_and_events());
+    steps.extend(stops());
+    steps.extend(events());
     steps
 }
 
@@ -158,89 +159,109 @@ fn faulty_forms() -> Vec<Step> {
     ]
 }
 
-fn other_units() -> Vec<Step> {
-    let on = |unit, owner| ReportFields {
+/// The derating by some owner on some unit.
+fn derating_of(unit: u16, owner: u16, stamp: u32) -> ReportFields {
+    ReportFields {
         unit,
         owner,
-        ..derating().stamped(at(18, 15))
-    };
-    let storage = |level, hour, name| ReportFields {
+        ..derating().stamped(stamp)
+    }
+}
+
+/// Unit 2's forced work for an hour.
+fn forced_storage(level: i32, hour: u32, name: u8) -> ReportFields {
+    ReportFields {
         unit: 2,
         ..forced(0)
             .over(at(hour, 0), at(hour + 1, 0))
             .at(level)
             .stamped(at(18, 16))
             .named(name)
-    };
-    let stop_of_4 = |qualification| ReportFields {
+    }
+}
+
+/// Unit 4's stop of both directions.
+fn planned_stop(qualification: u8) -> ReportFields {
+    ReportFields {
         direction: Direction::Both as u8,
         ..ReportFields::creation(4, 12, RecordType::Outage)
             .qualified(qualification)
             .over(at(20, 0), at(23, 0))
             .stamped(at(18, 18))
             .named(1)
-    };
-    let too_late = on(3, 9).stamped(LAST_MINUTE.0 + 1);
+    }
+}
+
+fn other_units() -> Vec<Step> {
+    let by_owner_7 = |unit| derating_of(unit, 7, at(18, 15));
+    let too_late = derating_of(3, 9, LAST_MINUTE.0 + 1);
     vec![
-        step("unit 5, which is not in the roster", on(5, 7), (3, 0)),
-        step("unit 3, reported by owner 7", on(3, 7), (3, 0)),
+        step("unit 5, which is not in the roster", by_owner_7(5), (3, 0)),
+        step("unit 3, reported by owner 7", by_owner_7(3), (3, 0)),
         step(
             "forced work at 110,000 kW, Pmax being 100,000",
-            storage(110_000, 19, 1),
+            forced_storage(110_000, 19, 1),
             (0, 2),
         ),
         step(
             "forced work at 15,000 kW, Pmin being 20,000",
-            storage(15_000, 20, 2),
+            forced_storage(15_000, 20, 2),
             (0, 4),
         ),
         step(
             "a stop with qualification 8 (RE), which no report may carry",
-            stop_of_4(RESERVE_SHUTDOWN),
+            planned_stop(RESERVE_SHUTDOWN),
             (4, 0),
         ),
-        step("a planned stop of both directions", stop_of_4(2), (0, 0)),
+        step("a planned stop of both directions", planned_stop(2), (0, 0)),
         step("a stamp after the year 2049", too_late, (4, 0)),
     ]
 }
 
-fn stops_and_events() -> Vec<Step> {
-    let stop = |qualification, start, stamp, name| {
-        ReportFields::creation(1, 7, RecordType::Outage)
-            .begun()
-            .qualified(qualification)
-            .over(start, at(22, 0))
-            .stamped(stamp)
-            .named(name)
-    };
-    let maintenance = stop(2, at(18, 40), at(18, 45), 11);
-    let withdrawal = |report: ReportFields, stamp| ReportFields {
+/// Unit 1's begun stop to 22:00, stamped five minutes after its start.
+fn begun_stop(qualification: u8, start: u32, name: u8) -> ReportFields {
+    ReportFields::creation(1, 7, RecordType::Outage)
+        .begun()
+        .qualified(qualification)
+        .over(start, at(22, 0))
+        .stamped(start + 5)
+        .named(name)
+}
+
+fn withdrawal(report: ReportFields, stamp: u32) -> ReportFields {
+    ReportFields {
         operation: Operation::Withdraw as u8,
-        revision: 9,
+        revision: 2,
         parts: Vec::new(),
         ..report.stamped(stamp)
-    };
-    let event = |code, minute| {
-        ReportFields::creation(1, 7, RecordType::Event)
-            .begun()
-            .qualified(code)
-            .over(minute, minute)
-            .stamped(minute)
-    };
+    }
+}
+
+/// Unit 1's event, stamped in its minute.
+fn event(code: u8, minute: u32) -> ReportFields {
+    ReportFields::creation(1, 7, RecordType::Event)
+        .begun()
+        .qualified(code)
+        .over(minute, minute)
+        .stamped(minute)
+}
+
+fn stops() -> Vec<Step> {
+    let second = || begun_stop(2, at(18, 40), 11);
     vec![
         step(
             "a stop RA that began at 18:20, over the derating and the forced work",
-            stop(1, at(18, 20), at(18, 25), 10),
+            begun_stop(1, at(18, 20), 10),
             (0, 1),
         ),
         step(
             "a stop RB that began at 18:40: the one before closes",
-            maintenance.clone(),
+            second(),
             (0, 9),
         ),
         step(
             "that stop withdrawn, though it has begun",
-            withdrawal(maintenance, at(18, 50)),
+            withdrawal(second(), at(18, 50)),
             (14, 0),
         ),
         step(
@@ -248,6 +269,11 @@ fn stops_and_events() -> Vec<Step> {
             withdrawal(forced(0), at(18, 52)),
             (0, 0),
         ),
+    ]
+}
+
+fn events() -> Vec<Step> {
+    vec![
         step(
             "event 1 at 19:50, the boiler is lit",
             event(1, at(19, 50)),
