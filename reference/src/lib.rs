@@ -11,6 +11,7 @@ pub mod calendar;
 pub mod codes;
 pub mod compose;
 pub mod damage;
+pub mod evening;
 pub mod fields;
 pub mod minutes;
 pub mod processor;

@@ -3,6 +3,7 @@
 use crate::codes::RecordType;
 use crate::compose::ReportFields;
 use crate::damage;
+use crate::evening;
 use crate::processor::answer;
 use crate::quantities::LAST_MINUTE;
 use crate::register::BLOCK_SIZE;
@@ -23,6 +24,7 @@ pub struct Sample {
 pub fn samples() -> Vec<Sample> {
     let fixed = [
         ("roster-a-log", stream(&roster_a_reports())),
+        ("evening", evening::stream()),
         ("roster-a", roster_a()),
         ("register-a", register_after(&[])),
         ("register-a-after", register_after(&roster_a_reports())),

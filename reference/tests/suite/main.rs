@@ -2,12 +2,14 @@
 
 mod calendar;
 mod command_line;
+mod compare_logs;
 mod coverage;
 mod given_registers;
 mod minutes;
 mod question_1;
 mod questions;
 mod remark;
+mod sample_files;
 mod set_up;
 mod shift_log;
 mod stand_alone;

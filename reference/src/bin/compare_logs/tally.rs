@@ -1,0 +1,88 @@
+//! How often each kind of ending and each answer occurred.
+
+use crate::ending::{ending, ENDINGS};
+use std::collections::BTreeMap;
+
+/// The counts.
+#[derive(Default)]
+pub struct Tally {
+    endings: BTreeMap<&'static str, u64>,
+    answers: BTreeMap<String, u64>,
+}
+
+/// What the log can answer: question 1 is always answered "yes" there.
+fn answers() -> impl Iterator<Item = String> {
+    let numbers = (0..=19).filter(|&number| number != 1);
+    let numbers = numbers.map(|number| format!("answer {number}"));
+    let warnings = [1, 2, 4, 8].map(|warning| format!("warning {warning}"));
+    numbers
+        .chain(warnings)
+        .chain([LATE_STAMP.to_string(), CLEAN_LOG.to_string()])
+}
+
+const LATE_STAMP: &str = "stamp out of range";
+const CLEAN_LOG: &str = "log without refusal";
+
+impl Tally {
+    /// Counts a stream and its log; the number of the log's lines.
+    pub fn count(&mut self, input: &[u8], log: &[u8]) -> u64 {
+        let log = String::from_utf8_lossy(log);
+        let kind = ending(input);
+        let refused_roster = log.starts_with("roster");
+        let ended_early = log.contains(" - 2 0 -\n");
+        let told = match kind.split_once(':') {
+            Some(("roster 20", _)) => refused_roster,
+            Some(("2", _)) => ended_early,
+            _ => !refused_roster && !ended_early,
+        };
+        assert!(told, "{kind:?} is not the ending of\n{log}");
+        *self.endings.entry(kind).or_default() += 1;
+        log.lines().for_each(|line| self.count_line(line));
+        log.lines().count() as u64
+    }
+
+    fn count_line(&mut self, line: &str) {
+        let words: Vec<&str> = line.split(' ').collect();
+        match words.as_slice() {
+            ["total", _, _, "0"] => self.occurred(CLEAN_LOG.to_string()),
+            [_, unit, number, warnings, stamp @ ..] if !stamp.is_empty() && *unit != "unit" => {
+                self.occurred(format!("answer {number}"));
+                let sum: u32 = warnings.parse().unwrap_or_default();
+                for warning in [1, 2, 4, 8].into_iter().filter(|bit| sum & bit != 0) {
+                    self.occurred(format!("warning {warning}"));
+                }
+                if *unit != "-" && *stamp == ["-"] {
+                    self.occurred(LATE_STAMP.to_string());
+                }
+            }
+            _ => {}
+        }
+    }
+
+    fn occurred(&mut self, name: String) {
+        *self.answers.entry(name).or_default() += 1;
+    }
+
+    fn rows(&self) -> Vec<(String, u64)> {
+        let of_ending = |name: &str| self.endings.get(name).copied().unwrap_or_default();
+        let of_answer = |name: &str| self.answers.get(name).copied().unwrap_or_default();
+        let endings = ENDINGS.map(|name| (name.to_string(), of_ending(name)));
+        let answers = answers().map(|name| (name.clone(), of_answer(&name)));
+        endings.into_iter().chain(answers).collect()
+    }
+
+    /// Prints the table.
+    pub fn print(&self) {
+        for (name, count) in self.rows() {
+            println!("  {name:<28} {count:8}");
+        }
+        let streams: u64 = self.endings.values().sum();
+        println!("  {:<28} {streams:8}", "streams");
+    }
+
+    /// What never occurred.
+    pub fn missing(&self) -> Vec<String> {
+        let missing = self.rows().into_iter().filter(|&(_, count)| count == 0);
+        missing.map(|(name, _)| name).collect()
+    }
+}

@@ -1,0 +1,3 @@
+#!/bin/sh
+# A log without its last line.
+"$REFERENCE" log | grep -v '^total'

@@ -1,0 +1,138 @@
+#!/usr/bin/env bash
+# The front door: its help, its error lines, what it builds, and the logs of the samples.
+set -u
+cd "$(dirname "$0")/.." || exit 1
+top=$PWD
+room=$(mktemp -d)
+trap 'rm -rf "$room"' EXIT
+failed=0
+
+# told WHAT TEST..: a failure is said and kept
+told() {
+  local what=$1
+  shift
+  "$@" || { echo "desk.sh: $what"; failed=1; }
+}
+
+# refused STATUS LINE COMMAND..: nothing on standard output, one line on standard error
+refused() {
+  local status=$1 line=$2
+  shift 2
+  "$@" > "$room/out" 2> "$room/err" < /dev/null
+  told "$*: status $? and not $status" [ $? -eq "$status" ]
+  told "$*: it wrote to standard output" [ ! -s "$room/out" ]
+  told "$*: it said $(cat "$room/err")" [ "$(cat "$room/err")" = "$line" ]
+}
+
+# logged LOG COMMAND..: the log to the byte, nothing on standard error
+logged() {
+  local log=$1
+  shift
+  told "$*: it failed" "$@" > "$room/out" 2> "$room/err"
+  told "$*: not the log $log" cmp "$room/out" "$log"
+  told "$*: it said $(cat "$room/err")" [ ! -s "$room/err" ]
+}
+
+bad_words() {
+  local lists="'./desk help' lists what there is"
+  refused 2 "desk: no such word: judge; $lists" ./desk judge
+  refused 2 "desk: no such word: ; $lists" ./desk ''
+  refused 2 'desk: log takes one FILE, or - for standard input' ./desk log
+  refused 2 'desk: show takes one FILE, or - for standard input' ./desk show one two
+  refused 2 'desk: compare takes nothing more' ./desk compare 7
+  refused 1 'desk: no such file: no/such file' ./desk log 'no/such file'
+  refused 1 'desk: a folder, not a file: samples' ./desk show samples
+}
+
+help_lists_every_word() {
+  local word
+  ./desk help > "$room/help"
+  told 'no argument is not help' cmp -s "$room/help" <(./desk)
+  for word in log show compare bench test help; do
+    told "help lacks $word" grep -q "^./desk $word " "$room/help"
+  done
+}
+
+samples() {
+  local name
+  for name in roster-a evening; do
+    logged "samples/$name.log" ./desk log "samples/$name.stream"
+  done
+  logged samples/evening.log ./desk log - < samples/evening.stream
+  echo 'roster 20' > "$room/roster 20"
+  logged "$room/roster 20" ./desk log - < /dev/null
+  cp samples/roster-a.stream "$room/a stream"
+  (cd "$room" && "$top/desk" log 'a stream') > "$room/out"
+  told 'a name with a space, from another folder' cmp "$room/out" samples/roster-a.log
+  told 'the evening is not shown' grep -q '^report 25: ' <(./desk show samples/evening.stream)
+}
+
+# a copy of the script at the top of a bare folder, with stand-ins for rt
+bare_folder() {
+  local tool bare=$room/bare
+  mkdir -p "$bare/crates" "$room/tools" && touch "$bare/crates.txt"
+  cp desk "$bare/desk" && cp samples/roster-a.stream "$bare/stream"
+  for tool in bash dirname readlink cat find mktemp tee grep tail rm touch mkdir chmod; do
+    ln -s "$(command -v "$tool")" "$room/tools/$tool"
+  done
+  refused 1 'desk: rt is missing: it is needed to build target/bin/shift_log' \
+    env PATH="$room/tools" "$bare/desk" log "$bare/stream"
+  refused 1 'desk: cargo is missing: it is needed to build reference/target/release/reference' \
+    env PATH="$room/tools" "$bare/desk" show "$bare/stream"
+}
+
+# rt_is: standard input becomes the stand-in for rt in the bare folder
+rt_is() {
+  { echo "#!$(command -v bash)" && cat; } > "$room/tools/rt"
+  chmod +x "$room/tools/rt"
+}
+
+builds() {
+  local bare=$room/bare first='desk: proving and building target/bin/shift_log: some minutes the first time'
+  rt_is <<< 'echo because; exit 1'
+  refused 1 "$first"$'\n'"because"$'\n'"desk: 'rt check shift_log' failed with status 1" \
+    env PATH="$room/tools" "$bare/desk" log "$bare/stream"
+  rt_is << 'END'
+cat > /dev/null
+mkdir -p target/bin
+printf '#!%s\ncat\n' "$BASH" > target/bin/shift_log
+chmod +x target/bin/shift_log
+echo "rt: $*"
+END
+  PATH=$room/tools "$bare/desk" log "$bare/stream" > "$room/out" 2> "$room/err"
+  told 'the built program is not run on the file' cmp "$room/out" "$bare/stream"
+  told "building says $(cat "$room/err")" [ "$(cat "$room/err")" = "$first"$'\n''rt: check shift_log' ]
+  logged "$bare/stream" env PATH="$room/tools" "$bare/desk" log "$bare/stream"
+  touch -d '1 minute' "$bare/crates.txt"
+  PATH=$room/tools "$bare/desk" log "$bare/stream" > "$room/out" 2> "$room/err"
+  told 'newer sources are not built' grep -q '^rt: check shift_log$' "$room/err"
+}
+
+# root reads every file, so that root tries it as nobody
+unreadable_file() {
+  local as=()
+  [ "$(id -u)" -ne 0 ] || as=(setpriv --reuid=65534 --regid=65534 --clear-groups)
+  chmod 755 "$room" && touch "$room/closed" && chmod 000 "$room/closed"
+  refused 1 "desk: can't be read: $room/closed" "${as[@]}" "$room/bare/desk" log "$room/closed"
+}
+
+# the page for the shift has the log of roster A and a row for each number
+page_for_the_shift() {
+  local page=docs/SHIFT-LOG.md number
+  told "$page has another log" cmp -s samples/roster-a.log <(sed '1,/^```$/d;/^```$/,$d' "$page")
+  for number in {1..22}; do
+    told "$page lacks answer $number" grep -q "^| $number |" <(sed -n '/^## Refusals/,/^## Warnings/p' "$page")
+  done
+  for number in 1 2 4 8; do
+    told "$page lacks warning $number" grep -q "^| $number |" <(sed -n '/^## Warnings/,$p' "$page")
+  done
+}
+
+bad_words
+page_for_the_shift
+help_lists_every_word
+samples
+bare_folder
+builds
+unreadable_file
+exit "$failed"
