@@ -2,9 +2,10 @@
 use Prim.Native.Nat.{ℕ, _+_}
 use mathlib.Core.List.{List}
 use lib.Dec.{leb}
-use denote.Ref.{RefT}
+use denote.Ref.{RefT, now}
 use Rattle.fields.specs.Fields.{u16At}
 use Rattle.fields.specs.Lists.{pick}
+use Rattle.quantities.specs.declared.Minute.{Minute}
 use Rattle.quantities.specs.Quantities.{minuteAt}
 use Rattle.report.specs.Report.{headOf}
 use Rattle.reader.specs.declared.LineHead.{LineHead}
@@ -28,6 +29,16 @@ minuteTaken s place = record { value = minuteAt s place; place = placePast place
 
 abbrev pub readerAt : RefT (List ℕ) → ℕ → Reader
 readerAt report place = record { report = report; place = place }
+
+-- what stands where a reader stands, and the reader n bytes on
+abbrev pub u16Here : Reader → ℕ
+u16Here r = u16At (now (r .report)) (r .place)
+
+abbrev pub minuteHere : Reader → Minute
+minuteHere r = minuteAt (now (r .report)) (r .place)
+
+abbrev pub movedOn : Reader → ℕ → Reader
+movedOn r n = readerAt (r .report) (placePast (r .place) n)
 
 -- the head's fields that a line of the log shows, and those that say the report's length
 abbrev pub lineHead : List ℕ → LineHead

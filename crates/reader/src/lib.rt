@@ -1,9 +1,7 @@
 // A reader that holds a report and its place, and the head's fields that a line of the shift log shows.
 use quantities::Minute;
 ghost use mathlib.Core.Path.{_≡_};
-ghost use Rattle.fields.specs.Fields.{u16At};
-ghost use Rattle.quantities.specs.Quantities.{minuteAt};
-ghost use Rattle.reader.specs.Reading.{placePast, u16Taken, minuteTaken, readerAt, lineHead};
+ghost use Rattle.reader.specs.Reading.{placePast, u16Taken, minuteTaken, readerAt, u16Here, minuteHere, movedOn, lineHead};
 
 pub struct Reader<'a> {
     pub report: &'a [u8],
@@ -66,13 +64,13 @@ pub fn start<'a>(report: &'a [u8]) -> Reader<'a>
 }
 
 pub fn skip<'s, 'a>(r: &'s mut Reader<'a>, n: usize)
-    ensures { λ _. ⌜ now (r .exit) ≡ readerAt (now (r .entry) .report) (placePast (now (r .entry) .place) n) ⌝ }
+    ensures { λ _. ⌜ now (r .exit) ≡ movedOn (now (r .entry)) n ⌝ }
 {
     r.place = past(r.place, n);
 }
 
 pub fn read_u16<'s, 'a>(r: &'s mut Reader<'a>) -> u16
-    ensures { λ v. ⌜ (v ≡ u16At (now (now (r .entry) .report)) (now (r .entry) .place)) × (now (r .exit) ≡ readerAt (now (r .entry) .report) (placePast (now (r .entry) .place) 2)) ⌝ }
+    ensures { λ v. ⌜ (v ≡ u16Here (now (r .entry))) × (now (r .exit) ≡ movedOn (now (r .entry)) 2) ⌝ }
 {
     let t = take_u16(r.report, r.place);
     r.place = t.place;
@@ -80,7 +78,7 @@ pub fn read_u16<'s, 'a>(r: &'s mut Reader<'a>) -> u16
 }
 
 pub fn read_minute<'s, 'a>(r: &'s mut Reader<'a>) -> Minute
-    ensures { λ v. ⌜ (v ≡ minuteAt (now (now (r .entry) .report)) (now (r .entry) .place)) × (now (r .exit) ≡ readerAt (now (r .entry) .report) (placePast (now (r .entry) .place) 4)) ⌝ }
+    ensures { λ v. ⌜ (v ≡ minuteHere (now (r .entry))) × (now (r .exit) ≡ movedOn (now (r .entry)) 4) ⌝ }
 {
     let t = take_minute(r.report, r.place);
     r.place = t.place;

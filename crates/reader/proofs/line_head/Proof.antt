@@ -103,16 +103,24 @@ module _ {M : Type 1} (𝓤 : URA M) (H : Heap 𝓤) (A : Atoms 𝓤) (W : Given
   start-said : (r : Reader) → ent 𝓤 (ensured 𝓤 H A start.ended (start.clauses 𝓤 H A mem run) (κ, tt) (s, tt) tt r) (fact 𝓤 (r ≡ readerAt s 0))
   start-said r = exE 𝓤 _ (λ ws. snd∗ 𝓤 (sem 𝓤 H A (lasts start.ended (κ, tt) (s, tt) ws)) (fact 𝓤 (r ≡ readerAt s 0)))
 
-  -- the result, of what was read
+  -- the result: what was read, where the reader stood
   abbrev line : LineHead
-  line = lineHead (s .now)
+  line = record {
+    unit = u16At (s .now) 2;
+    «part_count» = u16At (s .now) 14;
+    stamp = minuteAt (s .now) 32;
+    «text_length» = u16At (s .now) 44;
+  }
+
+  is-the-line : line ≡ lineHead (s .now)
+  is-the-line = refl
 
   is-line : u16At (s .now) 2 < 2 ^ 16 → u16At (s .now) 14 < 2 ^ 16 → Is N.the-row (minuteAt (s .now) 32) (N′.lowered (minuteAt (s .now) 32) ∷ []) → u16At (s .now) 44 < 2 ^ 16 → Is S.the-row line (S′.lowered line ∷ [])
   is-line f g m h = LL.owes S.the-type S′.the-laws line ((refl, f), ((refl, g), (m, ((refl, h), tt))))
 
   exits : Is S.the-row line (S′.lowered line ∷ []) → ent 𝓤 (sep 𝓤 (A .lft κ q) (sem 𝓤 H A Own)) (Post (S′.lowered line))
   exits is =
-      qed W (‵ (flft κ q) ∷ ‵ Own ∷ []) ∵ suffices ! _ (ends-at 𝓤 H A line-head.ended stayed (line-head.clauses 𝓤 H A mem run) W (((κ, tt), (q, tt), tt, (s, tt), (v ∷ [], tt)), tt) (S′.lowered line) line (tt, tt) (tt, tt)) $ says ! refl $
+      qed W (‵ (flft κ q) ∷ ‵ Own ∷ []) ∵ suffices ! _ (ends-at 𝓤 H A line-head.ended stayed (line-head.clauses 𝓤 H A mem run) W (((κ, tt), (q, tt), tt, (s, tt), (v ∷ [], tt)), tt) (S′.lowered line) line (tt, tt) (tt, tt)) $ says ! is-the-line $
       nothing ! $ move ! (1 ∷ 0 ∷ []) $ join ! $ frame ! $ nothing ! $ move ! (1 ∷ 0 ∷ []) $ fjoin ! $ frame ! $ owned ! S.the-row (Is S.the-row) (LL.makes S.the-type S′.the-plain 𝓤 H A) line _ is $ done !
 
   module _ (C : Calls 𝓤 H) (Λ : Loops 𝓤 H) (fm : FmC 𝓤 H (W .laws) C) (known : Known 𝓤 H A mem run C) where

@@ -27,9 +27,7 @@ use denote.Memory.{mem}
 use denote.Plain.{uint-vals, uint-tells, uint-makes, uint-lawful}
 use denote.Builtin.{usize}
 use denote.Ref.{RefT, MutRef, ptr-vals, mut-tells}
-use denote.Steps.{only, opens, closes, owned, peeks, heard, nothing}
-use denote.Struct.Laws as LL
-use denote.Struct.Steps.{spelt}
+use denote.Steps.{only, owned, peeks, heard, nothing}
 use denote.Triple.Statement.{Contract, Triple}
 use denote.Triple.Call.{calls-at}
 use denote.Triple.Clauses.{ensured, lasts}
@@ -40,9 +38,7 @@ use denote.Triple.Walked.{says, Stays, stay-ref, stay-none, walkOf, goes-none, g
 use denote.Exit.{yes}
 use Rattle.reader.specs.declared.Reader.{Reader}
 use Rattle.reader.specs.Reading.{placePast, readerAt}
-use Rattle.reader.proofs.Held.{α, B, behind, place-fits, again}
-use Rattle.reader.proofs.Reader as T
-use Rattle.reader.proofs.Reader.Laws as T′
+use Rattle.reader.proofs.Held.{B, behind, place-fits, opens-reader, closes-reader}
 use Rattle.reader.proofs.past as past
 use Rattle.reader.proofs.past.Symbol as past-def
 use Rattle.reader.proofs.past.Symbol.{name as #reader·past}
@@ -95,8 +91,7 @@ module _ {M : Type 1} (𝓤 : URA M) (H : Heap 𝓤) (A : Atoms 𝓤) (W : Given
         qed W ((‵ (flft κ q) ⊛ ‵ (flft κ′ q′) ⊛ ‵ ftrue) ∷ ‵ (owns (MutRef (named 0) κ (B κ′) ∷ usize ∷ []) x at) ∷ []) ∵ enter ! C Λ code.function (vptr b o ∷ vint w64 n ∷ []) _ $
         alloc1 ! (λ l₀. alloc1 ! (λ l₁. alloc1 ! (λ l₂. alloc1 ! (λ l₃. alloc1 ! (λ l₄. alloc0 ! $ params1 ! $ pass1 ! (init ! 6 refl (tt, tt)) $ pass1 ! (init ! 4 refl (tt, record { fits = n-fits })) $ pass0 ! $
         move ! (11 ∷ []) $ fsplit ! $ fsplit3 ! $ drop ! $ move ! (13 ∷ []) $ split ! $ move ! (2 ∷ 3 ∷ 0 ∷ []) $
-        opens ! tt (B κ′) {h = h} b o (λ vs. spelt ! (B κ′) (Is (B κ′)) (shows 𝓤 H A (B κ′)) (LL.vals (T.the-type (α κ′)) (T′.the-laws (α κ′))) (LL.tells (T.the-type (α κ′)) (T′.the-laws (α κ′))) fullShare h vs b o $
-        move ! (1 ∷ []) $ peeks ! (B κ′) (Is (B κ′)) (shows 𝓤 H A (B κ′)) h (T′.lowered h ∷ []) (λ was. move ! (1 ∷ 0 ∷ []) $
+        opens-reader ! tt κ′ h b o (λ was.
         -- [the reader's cell; what it owns; the open borrow; obs; auth; 'a's token; n's; _4; …; _3; …; _2; …; _1; …; room for _0; …]
         assigns ! (of-opd ! (load ! (from ! (hop ! (look ! 13 refl) (fld ! refl (stop !)))) (look-in ! 0 (sub ! 1 refl (whole !))))) (from ! (stop !)) (init ! 7 refl (tt, record { fits = place-fits 𝓤 H A W κ′ h was })) $
         use0 W (raw (Past 𝓤 H A at-mem run .pre to)) (goes (place-fits 𝓤 H A W κ′ h was)) $
@@ -107,10 +102,9 @@ module _ {M : Type 1} (𝓤 : URA M) (H : Heap 𝓤) (A : Atoms 𝓤) (W : Given
         land ! (from ! (stop !)) (init ! 9 refl (uint-lawful 𝓤 H A W w64 .typed r _ is .0)) $ rewrite ! 9 (λ (w : Val). ‵ (fat fullShare (tyInt w64) l₃ 0 w)) (ap only (is .0)) refl $
         assigns ! (of-opd ! (load ! (from ! (stop !)) (look ! 9 refl))) (from ! (hop ! (look ! 13 refl) (fld ! refl (stop !)))) (store-in ! 0 (sub ! 1 refl (whole !)) (tt, record { fits = is .1 })) $
         assigns ! (of-opd ! (unit-lit !)) (from ! (stop !)) (init ! 15 refl (tt, tt)) $
-        move ! (1 ∷ []) $ use1 W (‵ (B κ′ .own (readerAt (h .report) r) (T′.lowered (readerAt (h .report) r) ∷ []))) (again 𝓤 H A W κ′ h r (is .1)) $ move ! (1 ∷ 0 ∷ []) $
-        closes ! tt (B κ′) (readerAt (h .report) r) (T′.lowered (readerAt (h .report) r) ∷ []) b o $
+        closes-reader ! tt κ′ h r (is .1) b o $
         returns ! (look ! 13 refl) $ forget ! 5 refl $ forget ! 7 refl $ forget ! 9 refl $ forget ! 11 refl $ forget ! 13 refl $
-        move ! (13 ∷ 14 ∷ []) $ free1 ! $ move ! (11 ∷ 12 ∷ []) $ free1 ! $ move ! (9 ∷ 10 ∷ []) $ free1 ! $ move ! (7 ∷ 8 ∷ []) $ free1 ! $ move ! (5 ∷ 6 ∷ []) $ free1 ! $ free0 ! $ keep ! (0 ∷ 1 ∷ 2 ∷ 3 ∷ []) $ by ! (exits r e))))))))))))
+        move ! (13 ∷ 14 ∷ []) $ free1 ! $ move ! (11 ∷ 12 ∷ []) $ free1 ! $ move ! (9 ∷ 10 ∷ []) $ free1 ! $ move ! (7 ∷ 8 ∷ []) $ free1 ! $ move ! (5 ∷ 6 ∷ []) $ free1 ! $ free0 ! $ keep ! (0 ∷ 1 ∷ 2 ∷ 3 ∷ []) $ by ! (exits r e)))))))))))
 
 module _ {M : Type 1} (𝓤 : URA M) (H : Heap 𝓤) (A : Atoms 𝓤) (W : Given 𝓤 H A) (mem : Memory → SProp 𝓤) (run : Routine → Fun 𝓤) where
   skip-walks : (C : Calls 𝓤 H) (Λ : Loops 𝓤 H) → FmC 𝓤 H (W .laws) C → Triple 𝓤 (C #reader·past) (Past 𝓤 H A mem run) → Walks 𝓤 H A skip.ended stayed (WpFn 𝓤 H C Λ code.function) (skip.clauses 𝓤 H A mem run)

@@ -8,4 +8,4 @@ take-minute-spec =
     (tie.spec
     (λ c κs. search needs)
     (λ c κs. search needs)
-    (λ c. cc))
+    (λ c i. record { value = c .before .minute-at .ensures i; place = c .past .ensures i }))

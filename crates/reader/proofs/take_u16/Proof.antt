@@ -8,4 +8,4 @@ take-u16-spec =
     (tie.spec
     (λ c κs. search needs)
     (λ c κs. search needs)
-    (λ c. cc))
+    (λ c i. record { value = c .before .u16-at .ensures i; place = c .past .ensures i }))
