@@ -1,5 +1,4 @@
 -- "The event step is lent the unit's row and alters that row itself": the row after the step, for every row and every report.
-use mathlib.Core.Bool.{true, false}
 use Rattle.fields.specs.Lists.{pick}
 use Rattle.report.specs.declared.Head.{Head}
 use Rattle.rules.specs.declared.Row.{Row}
