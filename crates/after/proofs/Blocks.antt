@@ -22,13 +22,13 @@ use Rattle.report.specs.Report.{headOf, partsOf, partCount, partAt}
 use Rattle.rules.specs.declared.Row.{Row}
 use Rattle.rules.specs.Block.{headSize, slotSize, slotCount, blockSize, slotAt}
 use Rattle.rules.specs.Questions.{recordOf, stampOf}
-use Rattle.rules.specs.After.{rowAfter, putRow}
+use Rattle.rules.specs.After.{putRow}
 use Rattle.rules.proofs.Slots.{slot-length}
 use Rattle.rules.proofs.Holding.{zeros-length}
 use Rattle.rules.proofs.Heads.{row-length}
 use Rattle.rules.proofs.Afterwards.{slot-size}
 use Rattle.after.specs.declared.Plan.{Plan}
-use Rattle.after.specs.Plan.{slotMade, slotPlanned, headMade, slotsPlanned, planApplied}
+use Rattle.after.specs.Plan.{slotMade, slotPlanned, rowPlanned, headMade, slotsPlanned, planApplied}
 
 -- what is put in the first of two lists, or in the second
 pub put-first : (xs ys vs : List ℕ) (at : ℕ) → at + length vs ≤ length xs → put (xs ++ ys) at vs ≡ put xs at vs ++ ys
@@ -176,11 +176,11 @@ pub lent-length : (s : List ℕ) (at n : ℕ) → at + n ≤ length s → length
 lent-length s at n h = ap length (part-lent s at n) ∙ part-length s at n h
 
 -- the two ways out
-pub applied : (b s : List ℕ) (plan : Plan) {c d : List ℕ} {row : Row} {stamp : ℕ} → length b ≡ blockSize → partCount s ≤ 100 → row ≡ rowAfter b s → stamp ≡ stampOf s → c ≡ slotsPlanned b s plan → d ≡ headMade c (plan .changes) row stamp → d ≡ planApplied b s plan
+pub applied : (b s : List ℕ) (plan : Plan) {c d : List ℕ} {row : Row} {stamp : ℕ} → length b ≡ blockSize → partCount s ≤ 100 → row ≡ rowPlanned b s → stamp ≡ stampOf s → c ≡ slotsPlanned b s plan → d ≡ headMade c (plan .changes) row stamp → d ≡ planApplied b s plan
 unfolding planApplied pick slotsPlanned
 applied b s plan size few r t e f =
     f ∙ rw (e, r, t, eq-eqb (length b) blockSize size, le-leb (partCount s) 100 few)
-    (head-first (part b 0 headSize) (joined (slotPlanned b s plan) 0 slotCount) (plan .changes) (rowAfter b s) (stampOf s) (part-length b 0 headSize (omega arith)))
+    (head-first (part b 0 headSize) (joined (slotPlanned b s plan) 0 slotCount) (plan .changes) (rowPlanned b s) (stampOf s) (part-length b 0 headSize (omega arith)))
 
 -- the test of the code, on the head that it read
 test-read : (b s : List ℕ) {h : Head} → h ≡ headOf s → (eqb (length b) blockSize && leb (h .«part_count») 100) ≡ (eqb (length b) blockSize && leb (partCount s) 100)

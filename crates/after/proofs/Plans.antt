@@ -1,26 +1,64 @@
--- A plan that says what the definitions of paper 01 say gives the block afterwards. Assumes nothing.
+-- Of an accepted report, a plan that says what the definitions of paper 01 say gives the block afterwards. Assumes nothing.
 use Prim.Native.Nat.{ℕ, _≤_, _<_}
 use mathlib.Core.Path.{_≡_, refl, ap, _∙_}
-use mathlib.Core.Bool.{Bool, false}
+use mathlib.Core.Bool.{Bool, true, false, not, _&&_, _||_, false≢true}
 use mathlib.Core.List.{List, _++_}
 use native.Mathlib.Omega.{arith}
 use native.Mathlib.Nat.{zero-add}
+use lib.Dec.{eqb}
 use lib.ListN.{length, getD}
-use borrow.Author.Tests.{eq-eqb, le-leb}
-use Rattle.fields.specs.Lists.{pick, series}
+use borrow.Author.Tests.{eq-eqb, le-leb, eqb-true}
+use Rattle.fields.specs.Lists.{pick, series, part}
+use Rattle.fields.proofs.Bools.{and-right}
 use Rattle.fields.proofs.Joined.{joined-same}
 use Rattle.fields.proofs.Tests.{series-at}
-use Rattle.report.specs.Report.{partCount}
-use Rattle.rules.specs.Block.{slotCount, blockSize}
-use Rattle.rules.specs.Questions.{changesState, stays}
-use Rattle.rules.specs.After.{headAfter, slotWritten, slotAfter, blockAfter}
+use Rattle.report.specs.Report.{headOf, partCount}
+use Rattle.rules.specs.declared.Row.{Row}
+use Rattle.rules.specs.Block.{headSize, unitHead, slotCount, blockSize}
+use Rattle.rules.specs.Codes.{W1, create, change, withdraw}
+use Rattle.rules.specs.Records.{begun, holdsState}
+use Rattle.rules.specs.Questions.{recordOf, isEvent, isWithdrawal, isOperation, stampOf, heldRecord, begins, changesState, hasArrow, stays, question18}
+use Rattle.rules.specs.After.{rowAfter, headAfter, slotWritten, slotAfter, blockAfter}
+use Rattle.rules.specs.Judge.{refusalNumber}
+use Rattle.rules.proofs.Afterwards.{event-creates}
+use Rattle.rules.proofs.Passed.{Passed, passed}
 use Rattle.after.specs.declared.Plan.{Plan}
-use Rattle.after.specs.Plan.{slotMade, slotPlanned, headMade, headPlanned, planApplied}
+use Rattle.after.specs.Plan.{slotMade, slotPlanned, rowPlanned, headMade, headPlanned, planApplied}
+
+-- question 18 said "yes" to an accepted report that changes the state, so the event step moves the row
+module _ (b s : List ℕ) (p : Passed b s) (changes : changesState b s ≡ true) where
+  no-event : isWithdrawal s ≡ true → (t : Bool) → isEvent s ≡ t → isEvent s ≡ false
+  no-event w false e = e
+  no-event w true e =
+      let one = eqb-true (headOf s .operation) create (event-creates b s p e) in
+      let three = eqb-true (headOf s .operation) withdraw w in
+      absurd (omega arith)
+
+  -- a withdrawal is no event, and begins nothing
+  no-withdrawal : (t : Bool) → isWithdrawal s ≡ t → isWithdrawal s ≡ false
+  unfolding changesState begins
+  no-withdrawal false w = w
+  no-withdrawal true w =
+      let way = and-right (eqb (unitHead b .kind) W1) (isEvent s || begins b s) changes in
+      let begun-now : begins b s ≡ true = rw (no-event w (isEvent s) refl) at way in
+      let operation = and-right (holdsState (recordOf s)) (isOperation create s || isOperation change s && not (begun (heldRecord b s))) begun-now in
+      absurd (false≢true (rw (eqb-true (headOf s .operation) withdraw w) at operation))
+
+  row-moves : rowPlanned b s ≡ rowAfter b s
+  unfolding question18 pick
+  row-moves =
+      let asked : hasArrow (unitHead b .row) (headOf s) ≡ true = rw (no-withdrawal (isWithdrawal s) refl, changes) at (p .q18) in
+      rw asked
 
 module _ (b s : List ℕ) (plan : Plan) where
-  head-same : plan .changes ≡ changesState b s → headPlanned b s plan ≡ headAfter b s
+  rows-same : Passed b s → (t : Bool) → changesState b s ≡ t → headMade (part b 0 headSize) t (rowPlanned b s) (stampOf s) ≡ headMade (part b 0 headSize) t (rowAfter b s) (stampOf s)
+  unfolding headMade pick
+  rows-same p true e = ap (λ (row : Row). headMade (part b 0 headSize) true row (stampOf s)) (row-moves b s p e)
+  rows-same p false e = refl
+
+  head-same : Passed b s → plan .changes ≡ changesState b s → headPlanned b s plan ≡ headAfter b s
   unfolding headMade headAfter
-  head-same c = rw c refl
+  head-same p c = rw c (rows-same p (changesState b s) refl)
 
   slot-same : plan .keep ≡ series (stays b s) 0 8 → plan .written ≡ slotWritten b s → (v : ℕ) → v < 8 → slotPlanned b s plan v ≡ slotAfter b s v
   unfolding slotMade slotAfter
@@ -29,9 +67,9 @@ module _ (b s : List ℕ) (plan : Plan) where
       ap (λ (l : List Bool). getD l v false) k ∙ series-at (stays b s) 0 8 v false h ∙ ap (stays b s) (zero-add v) in
       rw (w, e) refl
 
-  pub plan-after : length b ≡ blockSize → partCount s ≤ 100 → plan .keep ≡ series (stays b s) 0 8 → plan .written ≡ slotWritten b s → plan .changes ≡ changesState b s → planApplied b s plan ≡ blockAfter b s
+  pub plan-after : length b ≡ blockSize → partCount s ≤ 100 → plan .keep ≡ series (stays b s) 0 8 → plan .written ≡ slotWritten b s → plan .changes ≡ changesState b s → refusalNumber b s ≡ 0 → planApplied b s plan ≡ blockAfter b s
   unfolding planApplied blockAfter pick
-  plan-after size few k w c =
-      rw (eq-eqb (length b) blockSize size, le-leb (partCount s) 100 few, head-same c)
+  plan-after size few k w c zero-now =
+      rw (eq-eqb (length b) blockSize size, le-leb (partCount s) 100 few, head-same (passed b s zero-now) c)
       (ap (λ (l : List ℕ). headAfter b s ++ l)
       (joined-same (slotPlanned b s plan) (slotAfter b s) 0 slotCount (λ v l r. slot-same k w v (omega arith))))

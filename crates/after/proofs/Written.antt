@@ -21,10 +21,12 @@ use Rattle.report.specs.Report.{headOf, partAt, partsOf, partCount}
 use Rattle.rules.specs.declared.Row.{Row}
 use Rattle.rules.specs.declared.UnitHead.{UnitHead}
 use Rattle.rules.specs.Block.{unitHead, slotMark, slotSize, zeros}
-use Rattle.rules.specs.Questions.{leadsTo, reasonAfter, recordOf, kilowatts}
-use Rattle.rules.specs.After.{rowAfter, pairBytes, slotBytes, putRow}
+use Rattle.rules.specs.Questions.{recordOf, kilowatts}
+use Rattle.rules.specs.After.{pairBytes, slotBytes, putRow}
 use Rattle.rules.proofs.Slots.{pairs-length}
-use Rattle.after.specs.Plan.{codesBytes, timesBytes, pairOf, slotMade, headMade}
+use Rattle.row.specs.declared.RowStep.{RowStep}
+use Rattle.row.specs.Step.{stepOf}
+use Rattle.after.specs.Plan.{codesBytes, timesBytes, pairOf, slotMade, rowPlanned, headMade}
 
 drop-zeros : (m n : ℕ) → drop m (zeros n) ≡ zeros (n - m)
 unfolding zeros
@@ -73,8 +75,8 @@ pair-put z at p =
 pub pair-made : (z : List ℕ) (at : ℕ) (p : Part) {y x : List ℕ} {k : Kilowatt} → y ≡ put z at (bytesOf 4 (p .period .end .0)) → k ≡ sizeOf (p .power) → x ≡ put y (at + 4) (bytesOf 4 (k .0)) → x ≡ put z at (pairOf p)
 pair-made z at p {y} {x} {k} e f g = g ∙ rw (e, f) (pair-put z at p)
 
-pub row-made : (b s : List ℕ) {u : UnitHead} {h : Head} {x y : ℕ} → u ≡ unitHead b → h ≡ headOf s → x ≡ leadsTo (u .row) (h .«record_type») (h .qualification) → y ≡ reasonAfter (h .«record_type») (h .qualification) → _≡_ {A = Row} (record { state = x; qualification = y; since = h .period .start }) (rowAfter b s)
-row-made b s {u} {h} {x} {y} e f g k = rw (g, k, e, f) refl
+pub row-made : (b s : List ℕ) {u : UnitHead} {h : Head} {r : RowStep} → u ≡ unitHead b → h ≡ headOf s → r ≡ stepOf (u .row) h → r .row ≡ rowPlanned b s
+row-made b s {u} {h} {r} e f g = ap (λ (x : RowStep). x .row) g ∙ rw (e, f) refl
 
 -- one byte more, one pair more
 bytes-turn : (z : List ℕ) (at from j : ℕ) (s : List ℕ) → put (put z at (series (u8At s) from j)) (at + j) (u8At s (from + j) ∷ []) ≡ put z at (series (u8At s) from (j + 1))

@@ -8,11 +8,12 @@ use Rattle.fields.specs.Fields.{bytesOf}
 use Rattle.fields.specs.Lists.{pick, joined, part, put}
 use Rattle.report.specs.declared.Head.{Head}
 use Rattle.report.specs.declared.Part.{Part}
-use Rattle.report.specs.Report.{partsOf, partCount}
+use Rattle.report.specs.Report.{headOf, partsOf, partCount}
 use Rattle.rules.specs.declared.Row.{Row}
-use Rattle.rules.specs.Block.{headSize, slotSize, slotCount, blockSize, slotMark, zeros, slotAt}
+use Rattle.rules.specs.Block.{headSize, slotSize, slotCount, blockSize, slotMark, zeros, unitHead, slotAt}
 use Rattle.rules.specs.Questions.{recordOf, stampOf, kilowatts}
-use Rattle.rules.specs.After.{rowAfter, putRow, slotBytes}
+use Rattle.rules.specs.After.{putRow, slotBytes}
+use Rattle.row.specs.Step.{rowStepped}
 use Rattle.after.specs.declared.Plan.{Plan}
 
 -- bytes 0 to 7 of a slot, and 24 to 37
@@ -39,8 +40,12 @@ slotPlanned b s plan i = slotMade s (eqb i (plan .written)) (getD (plan .keep) i
 unfoldable pub headMade : List ℕ → Bool → Row → ℕ → List ℕ
 headMade head changes row stamp = put (pick changes (putRow head row) head) 16 (bytesOf 4 stamp)
 
+-- the row that the event step leaves
+abbrev pub rowPlanned : List ℕ → List ℕ → Row
+rowPlanned b s = rowStepped (unitHead b .row) (headOf s)
+
 abbrev pub headPlanned : List ℕ → List ℕ → Plan → List ℕ
-headPlanned b s plan = headMade (part b 0 headSize) (plan .changes) (rowAfter b s) (stampOf s)
+headPlanned b s plan = headMade (part b 0 headSize) (plan .changes) (rowPlanned b s) (stampOf s)
 
 unfoldable pub slotsPlanned : List ℕ → List ℕ → Plan → List ℕ
 slotsPlanned b s plan = part b 0 headSize ++ joined (slotPlanned b s plan) 0 slotCount

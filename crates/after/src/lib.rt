@@ -13,8 +13,8 @@ ghost use Rattle.fields.specs.Lists.{pick, series, put};
 ghost use Rattle.fields.specs.Fields.{u8At};
 ghost use Rattle.report.specs.Report.{partsOf, partCount, partAt};
 ghost use Rattle.rules.specs.Questions.{recordOf};
-ghost use Rattle.rules.specs.After.{rowAfter, putRow, pairBytes, slotBytes};
-ghost use Rattle.after.specs.Plan.{codesBytes, timesBytes, pairOf, slotMade, headMade, slotsPlanned, planApplied};
+ghost use Rattle.rules.specs.After.{putRow, pairBytes, slotBytes};
+ghost use Rattle.after.specs.Plan.{codesBytes, timesBytes, pairOf, slotMade, rowPlanned, headMade, slotsPlanned, planApplied};
 
 // The slots that keep their record, the slot written (8: none), and whether the row changes.
 pub struct Plan {
@@ -112,18 +112,13 @@ fn set_slots(b: &mut [u8], report: &[u8], plan: Plan)
     }
 }
 
-// The row after a state change.
+// The unit's row after the event step.
 fn row_after(b: &[u8], report: &[u8]) -> Row
-    ensures { λ r. ⌜ r ≡ rowAfter (now (b .entry)) (now (report .entry)) ⌝ }
+    ensures { λ r. ⌜ r ≡ rowPlanned (now (b .entry)) (now (report .entry)) ⌝ }
 {
-    let row = block::unit_head(b).row;
-    let h = report::head_of(report);
-    let since = h.period.start;
-    Row {
-        state: records::leads_to(row, h.record_type, h.qualification),
-        qualification: records::reason_after(h.record_type, h.qualification),
-        since,
-    }
+    let head = block::unit_head(b);
+    let row = head.row;
+    row::stepped(row, report::head_of(report)).row
 }
 
 fn put_row(b: &mut [u8], row: Row)

@@ -45,7 +45,7 @@ module _ (b s : List ℕ) {n : ℕ} (asked : n ≡ refusalNumber b s) where
     accepts {left} {w} p q =
         let accepted : eqb (refusalNumber b s) 0 ≡ true = ap (λ (k : ℕ). eqb k 0) (sym asked) ∙ eq-eqb n 0 zero-now in
         let same : left ≡ blockAfter b s =
-        p ∙ plan-after b s _ long few (ap (λ (o : Outcome). o .keep) decided) (ap (λ (o : Outcome). o .written) decided) (ap (λ (o : Outcome). o .changes) decided) in
+        p ∙ plan-after b s _ long few (ap (λ (o : Outcome). o .keep) decided) (ap (λ (o : Outcome). o .written) decided) (ap (λ (o : Outcome). o .changes) decided) (sym asked ∙ zero-now) in
         let moved : warningsOn left s (o .left) ≡ warningsOn (blockAfter b s) s (someSlot (leaves b s)) = rw (same, ap (λ (o : Outcome). o .left) decided) in
         let warned : w ≡ warnings b s = q ∙ moved ∙ warnings-same b s in
         (rw (accepted, warned), same ∙ rw accepted)

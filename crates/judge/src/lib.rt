@@ -182,8 +182,7 @@ fn changes_state(b: &[u8], report: &[u8], held: u8) -> bool
 fn has_arrow(row: Row, h: Head) -> bool
     ensures { λ r. ⌜ r ≡ hasArrow row h ⌝ }
 {
-    (row.since.0 < h.period.start.0)
-        & !(records::leads_to(row, h.record_type, h.qualification) == 0)
+    row::stepped(row, h).moved
 }
 
 // Question 18.

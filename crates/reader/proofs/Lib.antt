@@ -1,0 +1,4 @@
+pub mod Held
+pub mod Lent
+pub mod Places
+pub mod Reading
