@@ -112,7 +112,7 @@ pub fn put_line(text: &mut [u8], line: u64, report: &[u8], a: Answer) -> usize
     ensures { λ r. ⌜ r ≡ length (logLine line (now (report .entry)) a) ⌝ }
     ensures { λ _. ⌜ now (text .exit) ≡ put (now (text .entry)) 0 (logLine line (now (report .entry)) a) ⌝ }
 {
-    let h = report::head_of(report);
+    let h = reader::line_head(report);
     let unit_at = put_number(text, 0, line);
     let number_at = put_unit(text, unit_at, a.number, h.unit);
     let warnings_at = put_number(text, number_at, a.number as u64);
@@ -217,7 +217,7 @@ pub fn stated_length(head: &[u8]) -> usize
     ensures { λ r. ⌜ r ≡ statedLength (now (head .entry)) ⌝ }
     ensures { λ r. ⌜ (48 ≤ r) × (r ≤ 1850) ⌝ }
 {
-    let h = report::head_of(head);
+    let h = reader::line_head(head);
     if (h.part_count <= 100) & (h.text_length <= 200) {
         50 + 16 * (h.part_count as usize) + (h.text_length as usize)
     } else {

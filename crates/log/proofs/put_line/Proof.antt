@@ -1,6 +1,6 @@
 use native.Mathlib.Omega.{arith}
 use mathlib.Core.Path.{ap}
-use Rattle.report.specs.declared.Head.{Head}
+use Rattle.reader.specs.declared.LineHead.{LineHead}
 use Rattle.log.proofs.Texts.{line-put}
 use borrow.Author.Needs.{needs}
 use Rattle.log.proofs.put_line.Statement.{statement}
@@ -13,7 +13,7 @@ returns c =
     let number = warnings .before .before .before .before .before in
     let unit = number .before .before .before .before .before in
     let line = unit .before .before .before .before in
-    (omega arith, line-put _ _ _ _ _ _ _ _ _ _ _ _ _ _ _ _ (ap (λ (h : Head). h .unit) (line .before .before .head-of .ensures)) (ap (λ (h : Head). h .stamp) (line .before .before .head-of .ensures)) (line .put-number .ensures .1) (unit .put-unit .ensures .1) (number .put-number2 .ensures .1) (warnings .put-number3 .ensures .1) (stamp .put-stamp .ensures .1))
+    (omega arith, line-put _ _ _ _ _ _ _ _ _ _ _ _ _ _ _ _ (ap (λ (h : LineHead). h .unit) (line .before .before .line-head .ensures)) (ap (λ (h : LineHead). h .stamp) (line .before .before .line-head .ensures)) (line .put-number .ensures .1) (unit .put-unit .ensures .1) (number .put-number2 .ensures .1) (warnings .put-number3 .ensures .1) (stamp .put-stamp .ensures .1))
 
 pub put-line-spec : {M : Type 1} → statement M
 put-line-spec =
