@@ -11,7 +11,8 @@ ghost use Rattle.fields.specs.Lists.{pick, put};
 ghost use Rattle.calendar.specs.Calendar.{digit as digitOf};
 ghost use Rattle.rules.specs.Desk.{answerTo};
 ghost use Rattle.log.specs.Log.{decimal, space, lineFeed, logHeader, faultLine, unitText, stampText, numberColumn, logLine, totalsLine};
-ghost use Rattle.log.specs.Run.{entryBegins, statedLength, mostCounted, oneMore, countAnswer, loggedAfter, atStart, nextLine, logFrom, logOf};
+ghost use Rattle.log.specs.Run.{entryBegins, statedLength, mostCounted, oneMore, countAnswer, loggedAfter, atStart, nextLine, logFrom, logOf, shiftLog};
+ghost use Rattle.log.specs.RosterA.{streamA, logA};
 
 // The reports accepted clean, accepted with warnings, and refused.
 pub struct Totals {
@@ -228,4 +229,9 @@ pub fn stated_length(head: &[u8]) -> usize
 // The lines and totals that the steps write for a list of reports are those of the definition's answers: the totals count them.
 pub fn totals_count_the_answers()
     ensures { λ r. ⌜ ((register : List ℕ) (ss : List (List ℕ)) → length ss ≤ mostCounted → logFrom atStart register ss ≡ logOf register ss) ⌝ }
+{}
+
+// The log of roster A's input is the one that paper 01 prints.
+pub fn roster_a_gets_its_log()
+    ensures { λ r. ⌜ shiftLog streamA ≡ logA ⌝ }
 {}

@@ -1,0 +1,60 @@
+-- The definition's log of roster A's input is the one that paper 01 prints. Assumes nothing.
+use Prim.Native.Nat.{ℕ, _+_, _*_}
+use mathlib.Core.Path.{_≡_, refl, ap, sym, _∙_}
+use mathlib.Core.Bool.{Bool, true, false, _&&_, false≢true}
+use mathlib.Core.List.{List, [], _∷_, _++_}
+use lib.Dec.{eqb}
+use lib.ListN.{length, take, drop}
+use borrow.Author.Tests.{eqb-true}
+use Rattle.fields.specs.Fields.{uintAt, bytesOf}
+use Rattle.fields.specs.Lists.{pick, and-each, every, all, series}
+use Rattle.fields.proofs.Bools.{and-left, and-right}
+use Rattle.report.specs.Report.{sized, marked, whole}
+use Rattle.rules.specs.declared.Answer.{Answer}
+use Rattle.rules.specs.Block.{zeros}
+use Rattle.rules.specs.Cases.{Expected, rosterA, partBytes, reportBytes, sameAnswers, right, loggedReports, logged}
+use Rattle.rules.specs.Desk.{newRegister, setUp, answers}
+use Rattle.rules.proofs.Worked.{good, logged-right}
+use Rattle.log.specs.Log.{countOf, totalsOf}
+use Rattle.log.specs.Run.{entriesRead, statedLength, reportsRead, linesOf, shiftLog}
+use Rattle.log.specs.RosterA.{oneAfterOther, streamA, logA}
+
+expectedAnswers : List Expected → List Answer
+expectedAnswers [] = []
+expectedAnswers (e ∷ es) = record { number = e .number; warnings = e .warnings } ∷ expectedAnswers es
+
+same-answers : (es : List Expected) (answered : List Answer) → sameAnswers es answered ≡ true → answered ≡ expectedAnswers es
+unfolding sameAnswers expectedAnswers
+same-answers [] [] p = refl
+same-answers [] (a ∷ rest) p = absurd (false≢true p)
+same-answers (e ∷ es) [] p = absurd (false≢true p)
+same-answers (e ∷ es) (a ∷ rest) p =
+    let both = and-left (eqb (e .number) (a .number) && eqb (e .warnings) (a .warnings)) (sameAnswers es rest) p in
+    let others = and-right (eqb (e .number) (a .number) && eqb (e .warnings) (a .warnings)) (sameAnswers es rest) p in
+    let number = eqb-true (e .number) (a .number) (and-left (eqb (e .number) (a .number)) (eqb (e .warnings) (a .warnings)) both) in
+    let warned = eqb-true (e .warnings) (a .warnings) (and-right (eqb (e .number) (a .number)) (eqb (e .warnings) (a .warnings)) both) in
+    rw (number, warned, same-answers es rest others)
+
+answered : answers (newRegister rosterA) loggedReports ≡ expectedAnswers (logged .expected)
+unfolding right
+answered = same-answers (logged .expected) (answers (newRegister rosterA) loggedReports) logged-right
+
+two-entries : entriesRead 8 streamA ≡ 2
+unfolding entriesRead pick uintAt streamA rosterA bytesOf oneAfterOther reportBytes
+two-entries = refl
+
+set-up : setUp rosterA (zeros 14336) ≡ record { number = 0; after = newRegister rosterA }
+unfolding setUp pick rosterA bytesOf zeros
+set-up = rw good
+
+roster : take 56 streamA ≡ rosterA
+unfolding streamA rosterA bytesOf oneAfterOther reportBytes
+roster = refl
+
+reports : reportsRead (length streamA) (drop 56 streamA) ≡ loggedReports
+unfolding reportsRead statedLength pick and-each every all series uintAt sized marked whole streamA rosterA bytesOf oneAfterOther reportBytes partBytes
+reports = refl
+
+pub roster-a-log : shiftLog streamA ≡ logA
+unfolding shiftLog pick expectedAnswers countOf
+roster-a-log = rw (two-entries, roster, set-up, reports, answered)
