@@ -80,6 +80,13 @@ uint-halves s at =
     let e : at + 1 + 1 ≡ at + 2 = omega arith in
     rw e (omega arith)
 
+pub four-bytes : (s : List ℕ) (at : ℕ) → uintAt 4 s at ≡ getD s at 0 + 256 * getD s (at + 1) 0 + 65536 * getD s (at + 2) 0 + 16777216 * getD s (at + 3) 0
+unfolding uintAt
+four-bytes s at =
+    let two : at + 1 + 1 ≡ at + 2 = omega arith in
+    let three : at + 2 + 1 ≡ at + 3 = omega arith in
+    rw (two, three) (omega arith)
+
 bytes-halves : (v : ℕ) → bytesOf 4 v ≡ bytesOf 2 (v % 65536) ++ bytesOf 2 (v / 65536)
 unfolding bytesOf
 bytes-halves v =

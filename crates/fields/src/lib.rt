@@ -1,7 +1,8 @@
 // Little-endian fields at an offset of a lent slice. Every function is total: a byte past the end
 // reads as 0, and a store past the end writes nothing.
 ghost use mathlib.Core.Path.{_≡_};
-ghost use Prim.Native.Nat.{_<_};
+ghost use Prim.Native.Nat.{_+_, _<_, _≤_};
+ghost use lib.ListN.{length};
 ghost use mathlib.Core.List.{[], _∷_};
 ghost use Rattle.fields.specs.Lists.{series, put};
 ghost use Rattle.fields.specs.Fields.{u8At, u16At, u32At, i32At, putU16, putU32, putI32};
@@ -12,10 +13,42 @@ fn wide(x: u8) -> u16
     x as u16
 }
 
+fn wider(x: u8) -> u32
+    ensures { λ r. ⌜ (r ≡ x) × (r < 256) ⌝ }
+{
+    x as u32
+}
+
 pub fn u8_at(s: &[u8], at: usize) -> u8
     ensures { λ r. ⌜ r ≡ u8At (now (s .entry)) at ⌝ }
 {
     if at < s.len() { s[at] } else { 0 }
+}
+
+// u16_at, u32_at and 16 bytes where the bytes are known to be there: loads and no test.
+pub fn u16_in(s: &[u8], at: usize) -> u16
+    requires { ⌜ at + 2 ≤ length (now s) ⌝ }
+    ensures { λ r. ⌜ r ≡ u16At (now (s .entry)) at ⌝ }
+{
+    wide(s[at]) + 256 * wide(s[at + 1])
+}
+
+pub fn u32_in(s: &[u8], at: usize) -> u32
+    requires { ⌜ at + 4 ≤ length (now s) ⌝ }
+    ensures { λ r. ⌜ r ≡ u32At (now (s .entry)) at ⌝ }
+{
+    wider(s[at]) + 256 * wider(s[at + 1]) + 65536 * wider(s[at + 2]) + 16777216 * wider(s[at + 3])
+}
+
+pub fn bytes16_in(s: &[u8], at: usize) -> [u8; 16]
+    requires { ⌜ at + 16 ≤ length (now s) ⌝ }
+    ensures { λ r. ⌜ r ≡ series (u8At (now (s .entry))) at 16 ⌝ }
+{
+    let mut bytes = [0u8; 16];
+    for j in 0..16usize {
+        bytes[j] = s[at + j];
+    }
+    bytes
 }
 
 pub fn u16_at(s: &[u8], at: usize) -> u16
@@ -24,7 +57,10 @@ pub fn u16_at(s: &[u8], at: usize) -> u16
     if s.len() <= at {
         return 0;
     }
-    wide(u8_at(s, at)) + 256 * wide(u8_at(s, at + 1))
+    if s.len() - at < 2 {
+        return wide(s[at]);
+    }
+    u16_in(s, at)
 }
 
 pub fn u32_at(s: &[u8], at: usize) -> u32
@@ -33,18 +69,19 @@ pub fn u32_at(s: &[u8], at: usize) -> u32
     if s.len() <= at {
         return 0;
     }
-    (u16_at(s, at) as u32) + 65536 * (u16_at(s, at + 2) as u32)
+    if s.len() - at < 4 {
+        return (u16_at(s, at) as u32) + 65536 * (u16_at(s, at + 2) as u32);
+    }
+    u32_in(s, at)
 }
 
-// Sixteen bytes, as an identifier has them.
-pub fn bytes16_at(s: &[u8], at: usize) -> [u8; 16]
-    ensures { λ r. ⌜ r ≡ series (u8At (now (s .entry))) at 16 ⌝ }
+// The first 48 bytes; what lies past the end is 0.
+pub fn first48(s: &[u8]) -> [u8; 48]
+    ensures { λ r. ⌜ r ≡ series (u8At (now (s .entry))) 0 48 ⌝ }
 {
-    let mut bytes = [0u8; 16];
-    if at < s.len() {
-        for j in 0..16usize {
-            bytes[j] = u8_at(s, at + j);
-        }
+    let mut bytes = [0u8; 48];
+    for j in 0..48usize {
+        bytes[j] = u8_at(s, j);
     }
     bytes
 }

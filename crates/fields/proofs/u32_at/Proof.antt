@@ -10,11 +10,14 @@ u32-at-spec =
     tie.close
     (tie.spec
     (λ c. sym (uint-past 4 _ _ (c .if1 .taken)))
-    (λ c κs. search needs)
-    (λ c. search needs)
     (λ c. search needs)
     (λ c κs. search needs)
     (λ c. search needs)
     (λ c. search needs)
+    (λ c κs. search needs)
     (λ c. search needs)
-    (λ c. rw uint-halves (omega arith)))
+    (λ c. search needs)
+    (λ c. search needs)
+    (λ c. rw uint-halves (omega arith))
+    (λ c κs. search needs)
+    (λ c. search needs))

@@ -1,11 +1,11 @@
-use Rattle.block.proofs.Pairs.{four-bytes}
 use native.Mathlib.Omega.{arith}
+use Rattle.fields.proofs.Numbers.{four-bytes}
 use borrow.Author.Needs.{needs}
-use Rattle.block.proofs.word_at.Statement.{statement}
-use Rattle.block.proofs.word_at.Tie as tie
+use Rattle.fields.proofs.u32_in.Statement.{statement}
+use Rattle.fields.proofs.u32_in.Tie as tie
 
-pub word-at-spec : {M : Type 1} → statement M
-word-at-spec =
+pub u32-in-spec : {M : Type 1} → statement M
+u32-in-spec =
     tie.close
     (tie.spec
     (λ c. search needs)
