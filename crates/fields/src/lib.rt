@@ -66,13 +66,15 @@ pub fn u16_at(s: &[u8], at: usize) -> u16
 pub fn u32_at(s: &[u8], at: usize) -> u32
     ensures { λ r. ⌜ r ≡ u32At (now (s .entry)) at ⌝ }
 {
+    if 4 <= s.len() {
+        if at <= s.len() - 4 {
+            return u32_in(s, at);
+        }
+    }
     if s.len() <= at {
         return 0;
     }
-    if s.len() - at < 4 {
-        return (u16_at(s, at) as u32) + 65536 * (u16_at(s, at + 2) as u32);
-    }
-    u32_in(s, at)
+    (u16_at(s, at) as u32) + 65536 * (u16_at(s, at + 2) as u32)
 }
 
 // The first 48 bytes; what lies past the end is 0.

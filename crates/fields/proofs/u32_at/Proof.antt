@@ -9,8 +9,10 @@ pub u32-at-spec : {M : Type 1} → statement M
 u32-at-spec =
     tie.close
     (tie.spec
-    (λ c. sym (uint-past 4 _ _ (c .if1 .taken)))
     (λ c. search needs)
+    (λ c κs. search needs)
+    (λ c. search needs)
+    (λ c. sym (uint-past 4 _ _ (c .if3 .taken)))
     (λ c κs. search needs)
     (λ c. search needs)
     (λ c. search needs)
@@ -18,6 +20,4 @@ u32-at-spec =
     (λ c. search needs)
     (λ c. search needs)
     (λ c. search needs)
-    (λ c. rw uint-halves (omega arith))
-    (λ c κs. search needs)
-    (λ c. search needs))
+    (λ c. rw uint-halves (omega arith)))
