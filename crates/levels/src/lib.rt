@@ -243,11 +243,12 @@ fn level_at(
     first_of(report_step(report, record_type, direction, m), slots)
 }
 
-fn levels_at(b: &[u8], report: &[u8], swept: Swept, direction: u8, m: Minute) -> Spell
+// The three levels in a minute, after that of forced work.
+fn levels_at(b: &[u8], report: &[u8], swept: Swept, direction: u8, m: Minute, f: Step) -> Spell
     requires { ⌜ m .0 < 4294967295 ⌝ }
+    requires { ⌜ Stays (levelAmong (sweptWorks (now b) (now report) (swept .counted) (swept .«with_report»)) 4 direction) (m .0) f ⌝ }
     ensures { λ r. ⌜ Stood (levelsAt (sweptWorks (now (b .entry)) (now (report .entry)) (swept .counted) (swept .«with_report»)) direction) (m .0) r ⌝ }
 {
-    let f = level_at(b, report, swept, 4, direction, m);
     let p = level_at(b, report, swept, 2, direction, m);
     let n = level_at(b, report, swept, 3, direction, m);
     let forced = f.level;
@@ -324,6 +325,7 @@ fn add_spell(g: Findings, kind: u8, range: PowerRange, l: Levels) -> Findings
 }
 
 // Question 17 and warnings 2 and 4 in every minute of a period: a turn for each change of a level, none for a minute.
+// Without forced work nothing is found, so the deratings are not looked up.
 pub fn sweep(b: &[u8], report: &[u8], swept: Swept, kind: u8, range: PowerRange) -> Findings
     ensures { λ r. ⌜ r ≡ findings kind range (sweptWorks (now (b .entry)) (now (report .entry)) (swept .counted) (swept .«with_report»)) (headOf (now (report .entry)) .direction) (headOf (now (report .entry)) .period .start .0) (headOf (now (report .entry)) .period .end .0) ⌝ }
 {
@@ -337,10 +339,15 @@ pub fn sweep(b: &[u8], report: &[u8], swept: Swept, kind: u8, range: PowerRange)
         below: false,
     };
     while m.0 < end.0 {
-        let spell = levels_at(b, report, swept, direction, m);
-        let levels = spell.levels;
-        g = add_spell(g, kind, range, levels);
-        m = quantities::earlier(spell.until, end);
+        let forced = level_at(b, report, swept, 4, direction, m);
+        if forced.level.there {
+            let spell = levels_at(b, report, swept, direction, m, forced);
+            let levels = spell.levels;
+            g = add_spell(g, kind, range, levels);
+            m = quantities::earlier(spell.until, end);
+        } else {
+            m = quantities::earlier(forced.until, end);
+        }
     }
     g
 }
