@@ -291,9 +291,14 @@ module _ (b s : List ℕ) {form : ℕ} (asked-form : form ≡ formNumber b s 0) 
     limit-answers too e =
         sym (form-next b s _ ∙ rw (← asked-form, eq-eqb form 0 passed) (record-next b s _ ∙ rw (← asked-record, eq-eqb held 0 too) (sym e)))
 
-pub written-join : (b s : List ℕ) (held : ℕ) {h : Head} {free x y : ℕ} → h ≡ headOf s → x ≡ pick (eqb (h .operation) 2) held 8 → free ≡ freeSlot b s → y ≡ pick (eqb (h .operation) 1 && not (eqb (h .«record_type») 6)) free x → held ≡ holder b s → y ≡ slotWritten b s
-unfolding slotWritten
-written-join b s held e x f y q = y ∙ rw (x, f, e, q)
+module _ (b s : List ℕ) {h : Head} (e : h ≡ headOf s) where
+  pub written-free : {free : ℕ} → (eqb (h .operation) 1 && not (eqb (h .«record_type») 6)) ≡ true → free ≡ freeSlot b s → free ≡ slotWritten b s
+  unfolding slotWritten pick
+  written-free t f = f ∙ rw (rw e at t)
+
+  pub written-held : {held x : ℕ} → (eqb (h .operation) 1 && not (eqb (h .«record_type») 6)) ≡ false → x ≡ pick (eqb (h .operation) 2) held 8 → held ≡ holder b s → x ≡ slotWritten b s
+  unfolding slotWritten pick
+  written-held t x q = x ∙ rw (e, q, rw e at t)
 
 pub some-join : (test : ℕ → Bool) {none : Bool} → none ≡ all (λ i. not (test i)) (series (λ i. i) 0 8) → not none ≡ someSlot test
 unfolding someSlot

@@ -229,8 +229,10 @@ fn leaves_at(b: &[u8], report: &[u8], held: u8, changes: bool, i: u8) -> bool
     requires { ⌜ (held ≡ holder (now b) (now report)) × (changes ≡ changesState (now b) (now report)) ⌝ }
     ensures { λ r. ⌜ r ≡ leaves (now (b .entry)) (now (report .entry)) i ⌝ }
 {
-    let h = report::head_of(report);
-    is_other(b, report, held, i) & must_leave(h, changes, record_at(b, i))
+    if !is_other(b, report, held, i) {
+        return false;
+    }
+    must_leave(report::head_of(report), changes, record_at(b, i))
 }
 
 // Slot i keeps its record.
@@ -387,9 +389,10 @@ fn slot_written(b: &[u8], report: &[u8], held: u8, changes: bool) -> u8
     ensures { λ r. ⌜ r ≡ slotWritten (now (b .entry)) (now (report .entry)) ⌝ }
 {
     let h = report::head_of(report);
-    let creates = (h.operation == 1) & !(h.record_type == 6);
-    let changed = records::choose_code(h.operation == 2, held, 8);
-    records::choose_code(creates, lowest_free(b, report, held, changes), changed)
+    if (h.operation == 1) & !(h.record_type == 6) {
+        return lowest_free(b, report, held, changes);
+    }
+    records::choose_code(h.operation == 2, held, 8)
 }
 
 // Some record leaves.
