@@ -1,8 +1,6 @@
 // A unit's block and the roster: decoded, and question 1.
 use fields::u8_at;
 use fields::u16_at;
-use fields::u16_in;
-use fields::u32_in;
 use quantities::Kilowatt;
 use quantities::Minute;
 use quantities::Period;
@@ -26,6 +24,7 @@ ghost use mathlib.Core.Path.{_≡_};
 ghost use mathlib.Core.Bool.{not, _||_};
 ghost use Prim.Native.Nat.{_+_, _*_, _≤_, _<_};
 ghost use lib.ListN.{length};
+ghost use Rattle.fields.specs.Fields.{u16At, u32At};
 ghost use Rattle.fields.specs.Lists.{all, series, part};
 ghost use Rattle.rules.specs.Roster.{powersAt, entryOf, entryGood, piece, rosterGood};
 ghost use Rattle.rules.specs.Block.{zeros, zerosAt, unitHead, slotAt, used, recordIn, storedCount};
@@ -89,6 +88,21 @@ pub fn entry_of(s: &[u8]) -> RosterEntry
     }
 }
 
+// u16_at and u32_at where the bytes are there: loads and no test.
+fn u16_in(s: &[u8], at: usize) -> u16
+    requires { ⌜ at + 2 ≤ length (now s) ⌝ }
+    ensures { λ r. ⌜ r ≡ u16At (now (s .entry)) at ⌝ }
+{
+    fields::u16_of(s[at], s[at + 1])
+}
+
+fn u32_in(s: &[u8], at: usize) -> u32
+    requires { ⌜ at + 4 ≤ length (now s) ⌝ }
+    ensures { λ r. ⌜ r ≡ u32At (now (s .entry)) at ⌝ }
+{
+    fields::u32_of(s[at], s[at + 1], s[at + 2], s[at + 3])
+}
+
 // unit_head and record_in where the bytes are known to be there: loads without a test each.
 fn read_unit_head(b: &[u8]) -> UnitHead
     requires { ⌜ 36 ≤ length (now b) ⌝ }
@@ -116,7 +130,7 @@ fn read_record(z: &[u8]) -> Record
     requires { ⌜ 36 ≤ length (now z) ⌝ }
     ensures { λ r. ⌜ r ≡ recordIn (now (z .entry)) ⌝ }
 {
-    let identifier = fields::bytes16_in(z, 8);
+    let identifier = fields::bytes16_at(z, 8);
     let stamp = Minute(u32_in(z, 24));
     let start = Minute(u32_in(z, 28));
     let end = Minute(u32_in(z, 32));

@@ -1,13 +1,12 @@
 // A report: whole or not, its head and its parts, whether they cover a period, and its remark.
 use fields::u16_at;
-use fields::u16_in;
-use fields::u32_in;
 use quantities::Minute;
 use quantities::Period;
 use quantities::SignedKilowatt;
 ghost use mathlib.Core.Path.{_≡_};
 ghost use Prim.Native.Nat.{_+_, _≤_};
 ghost use lib.ListN.{length};
+ghost use Rattle.fields.specs.Fields.{u16At, u32At};
 ghost use Rattle.fields.specs.Lists.{series};
 ghost use Rattle.report.specs.Report.{headOf, partAt, partsOf, sized, partMarked, partsMarked, marked, whole};
 ghost use Rattle.report.specs.Cover.{fits, rest, covers, partsCover};
@@ -36,12 +35,27 @@ pub struct Part {
     pub power: SignedKilowatt,
 }
 
+// u16_at and u32_at where the bytes are there: loads and no test.
+fn u16_in(s: &[u8], at: usize) -> u16
+    requires { ⌜ at + 2 ≤ length (now s) ⌝ }
+    ensures { λ r. ⌜ r ≡ u16At (now (s .entry)) at ⌝ }
+{
+    fields::u16_of(s[at], s[at + 1])
+}
+
+fn u32_in(s: &[u8], at: usize) -> u32
+    requires { ⌜ at + 4 ≤ length (now s) ⌝ }
+    ensures { λ r. ⌜ r ≡ u32At (now (s .entry)) at ⌝ }
+{
+    fields::u32_of(s[at], s[at + 1], s[at + 2], s[at + 3])
+}
+
 // head_of where the head is known to be there: loads without a test each.
 fn read_head(report: &[u8]) -> Head
     requires { ⌜ 48 ≤ length (now report) ⌝ }
     ensures { λ r. ⌜ r ≡ headOf (now (report .entry)) ⌝ }
 {
-    let identifier = fields::bytes16_in(report, 16);
+    let identifier = fields::bytes16_at(report, 16);
     let stamp = Minute(u32_in(report, 32));
     let start = Minute(u32_in(report, 36));
     let end = Minute(u32_in(report, 40));
