@@ -24,8 +24,8 @@ ghost use mathlib.Core.Path.{_≡_};
 ghost use mathlib.Core.Bool.{not, _||_};
 ghost use Prim.Native.Nat.{_+_, _*_, _≤_, _<_};
 ghost use lib.ListN.{length};
+ghost use Rattle.fields.specs.Fields.{u16At, u32At};
 ghost use Rattle.fields.specs.Lists.{all, series, part};
-ghost use Rattle.fields.specs.Fields.{u32At};
 ghost use Rattle.rules.specs.Roster.{powersAt, entryOf, entryGood, piece, rosterGood};
 ghost use Rattle.rules.specs.Block.{zeros, zerosAt, unitHead, slotAt, used, recordIn, storedCount};
 ghost use Rattle.rules.specs.Whole.{recordsApart, slotWhole, slotsApart, blockWhole, registerWhole};
@@ -88,25 +88,72 @@ pub fn entry_of(s: &[u8]) -> RosterEntry
     }
 }
 
-pub fn unit_head(b: &[u8]) -> UnitHead
+// u16_at and u32_at where the bytes are there: loads and no test.
+fn u16_in(s: &[u8], at: usize) -> u16
+    requires { ⌜ at + 2 ≤ length (now s) ⌝ }
+    ensures { λ r. ⌜ r ≡ u16At (now (s .entry)) at ⌝ }
+{
+    fields::u16_of(s[at], s[at + 1])
+}
+
+fn u32_in(s: &[u8], at: usize) -> u32
+    requires { ⌜ at + 4 ≤ length (now s) ⌝ }
+    ensures { λ r. ⌜ r ≡ u32At (now (s .entry)) at ⌝ }
+{
+    fields::u32_of(s[at], s[at + 1], s[at + 2], s[at + 3])
+}
+
+// unit_head and record_in where the bytes are known to be there: loads without a test each.
+fn read_unit_head(b: &[u8]) -> UnitHead
+    requires { ⌜ 36 ≤ length (now b) ⌝ }
     ensures { λ r. ⌜ r ≡ unitHead (now (b .entry)) ⌝ }
 {
-    let since = minute_at(b, 12);
+    let since = Minute(u32_in(b, 12));
     let row = Row {
-        state: u8_at(b, 7),
-        qualification: u8_at(b, 8),
+        state: b[7],
+        qualification: b[8],
         since,
     };
-    let last_stamp = minute_at(b, 16);
+    let last_stamp = Minute(u32_in(b, 16));
     let powers = powers_at(b, 20);
     UnitHead {
-        unit: u16_at(b, 2),
-        owner: u16_at(b, 4),
-        kind: u8_at(b, 6),
+        unit: u16_in(b, 2),
+        owner: u16_in(b, 4),
+        kind: b[6],
         row,
         last_stamp,
         powers,
     }
+}
+
+fn read_record(z: &[u8]) -> Record
+    requires { ⌜ 36 ≤ length (now z) ⌝ }
+    ensures { λ r. ⌜ r ≡ recordIn (now (z .entry)) ⌝ }
+{
+    let identifier = fields::bytes16_at(z, 8);
+    let stamp = Minute(u32_in(z, 24));
+    let start = Minute(u32_in(z, 28));
+    let end = Minute(u32_in(z, 32));
+    let period = Period { start, end };
+    Record {
+        record_type: z[2],
+        direction: z[3],
+        qualification: z[4],
+        start_mark: z[5],
+        ordinal: u16_in(z, 6),
+        identifier,
+        stamp,
+        period,
+    }
+}
+
+pub fn unit_head(b: &[u8]) -> UnitHead
+    ensures { λ r. ⌜ r ≡ unitHead (now (b .entry)) ⌝ }
+{
+    if 36 <= b.len() {
+        return read_unit_head(b);
+    }
+    read_unit_head(&fields::first48(b))
 }
 
 // Slot i, from 0.
@@ -125,19 +172,10 @@ pub fn is_used(z: &[u8]) -> bool
 pub fn record_in(z: &[u8]) -> Record
     ensures { λ r. ⌜ r ≡ recordIn (now (z .entry)) ⌝ }
 {
-    let identifier = fields::bytes16_at(z, 8);
-    let stamp = minute_at(z, 24);
-    let period = quantities::period_at(z, 28);
-    Record {
-        record_type: u8_at(z, 2),
-        direction: u8_at(z, 3),
-        qualification: u8_at(z, 4),
-        start_mark: u8_at(z, 5),
-        ordinal: u16_at(z, 6),
-        identifier,
-        stamp,
-        period,
+    if 36 <= z.len() {
+        return read_record(z);
     }
+    read_record(&fields::first48(z))
 }
 
 pub fn stored_count(z: &[u8]) -> u16
@@ -163,20 +201,6 @@ pub fn zeros_at(s: &[u8], at: usize, n: usize) -> bool
     all_zero(stretch(s, at, n))
 }
 
-fn wide(x: u8) -> u32
-    ensures { λ r. ⌜ (r ≡ x) × (r < 256) ⌝ }
-{
-    x as u32
-}
-
-// u32_at where the bytes are known to be there: four loads and no test.
-fn word_at(z: &[u8], at: usize) -> u32
-    requires { ⌜ at + 4 ≤ length (now z) ⌝ }
-    ensures { λ r. ⌜ r ≡ u32At (now (z .entry)) at ⌝ }
-{
-    wide(z[at]) + 256 * wide(z[at + 1]) + 65536 * wide(z[at + 2]) + 16777216 * wide(z[at + 3])
-}
-
 // The part ends rise from the period's start to its end, and every power is in range.
 fn pairs_rise(z: &[u8], k: u16, period: Period) -> bool
     requires { ⌜ 88 + 8 * k ≤ length (now z) ⌝ }
@@ -186,8 +210,8 @@ fn pairs_rise(z: &[u8], k: u16, period: Period) -> bool
     let mut start = period.start;
     for i in 0..k {
         let at = 88 + 8 * (i as usize);
-        let end = Minute(word_at(z, at));
-        let power = Kilowatt(word_at(z, at + 4));
+        let end = Minute(u32_in(z, at));
+        let power = Kilowatt(u32_in(z, at + 4));
         ok = ok & ((start.0 < end.0) & quantities::is_power(power));
         start = end;
     }

@@ -1,7 +1,8 @@
 // Little-endian fields at an offset of a lent slice. Every function is total: a byte past the end
 // reads as 0, and a store past the end writes nothing.
 ghost use mathlib.Core.Path.{_≡_};
-ghost use Prim.Native.Nat.{_<_};
+ghost use Prim.Native.Nat.{_+_, _*_, _<_, _≤_};
+ghost use lib.ListN.{length};
 ghost use mathlib.Core.List.{[], _∷_};
 ghost use Rattle.fields.specs.Lists.{series, put};
 ghost use Rattle.fields.specs.Fields.{u8At, u16At, u32At, i32At, putU16, putU32, putI32};
@@ -12,10 +13,41 @@ fn wide(x: u8) -> u16
     x as u16
 }
 
+fn wider(x: u8) -> u32
+    ensures { λ r. ⌜ (r ≡ x) × (r < 256) ⌝ }
+{
+    x as u32
+}
+
 pub fn u8_at(s: &[u8], at: usize) -> u8
     ensures { λ r. ⌜ r ≡ u8At (now (s .entry)) at ⌝ }
 {
     if at < s.len() { s[at] } else { 0 }
+}
+
+// The number of two bytes and of four, the lowest first.
+pub fn u16_of(a: u8, b: u8) -> u16
+    ensures { λ r. ⌜ r ≡ a + 256 * b ⌝ }
+{
+    wide(a) + 256 * wide(b)
+}
+
+pub fn u32_of(a: u8, b: u8, c: u8, d: u8) -> u32
+    ensures { λ r. ⌜ r ≡ a + 256 * b + 65536 * c + 16777216 * d ⌝ }
+{
+    wider(a) + 256 * wider(b) + 65536 * wider(c) + 16777216 * wider(d)
+}
+
+// Where the bytes are there: loads and no test.
+fn bytes16_in(s: &[u8], at: usize) -> [u8; 16]
+    requires { ⌜ at + 16 ≤ length (now s) ⌝ }
+    ensures { λ r. ⌜ r ≡ series (u8At (now (s .entry))) at 16 ⌝ }
+{
+    let mut bytes = [0u8; 16];
+    for j in 0..16usize {
+        bytes[j] = s[at + j];
+    }
+    bytes
 }
 
 pub fn u16_at(s: &[u8], at: usize) -> u16
@@ -24,20 +56,28 @@ pub fn u16_at(s: &[u8], at: usize) -> u16
     if s.len() <= at {
         return 0;
     }
-    wide(u8_at(s, at)) + 256 * wide(u8_at(s, at + 1))
+    if s.len() - at < 2 {
+        return wide(s[at]);
+    }
+    u16_of(s[at], s[at + 1])
 }
 
 pub fn u32_at(s: &[u8], at: usize) -> u32
     ensures { λ r. ⌜ r ≡ u32At (now (s .entry)) at ⌝ }
 {
+    if 4 <= s.len() {
+        if at <= s.len() - 4 {
+            return u32_of(s[at], s[at + 1], s[at + 2], s[at + 3]);
+        }
+    }
     if s.len() <= at {
         return 0;
     }
     (u16_at(s, at) as u32) + 65536 * (u16_at(s, at + 2) as u32)
 }
 
-// Sixteen bytes, as an identifier has them.
-pub fn bytes16_at(s: &[u8], at: usize) -> [u8; 16]
+// What lies past the end is 0.
+fn bytes16_padded(s: &[u8], at: usize) -> [u8; 16]
     ensures { λ r. ⌜ r ≡ series (u8At (now (s .entry))) at 16 ⌝ }
 {
     let mut bytes = [0u8; 16];
@@ -45,6 +85,29 @@ pub fn bytes16_at(s: &[u8], at: usize) -> [u8; 16]
         for j in 0..16usize {
             bytes[j] = u8_at(s, at + j);
         }
+    }
+    bytes
+}
+
+// Sixteen bytes, as an identifier has them.
+pub fn bytes16_at(s: &[u8], at: usize) -> [u8; 16]
+    ensures { λ r. ⌜ r ≡ series (u8At (now (s .entry))) at 16 ⌝ }
+{
+    if 16 <= s.len() {
+        if at <= s.len() - 16 {
+            return bytes16_in(s, at);
+        }
+    }
+    bytes16_padded(s, at)
+}
+
+// The first 48 bytes; what lies past the end is 0.
+pub fn first48(s: &[u8]) -> [u8; 48]
+    ensures { λ r. ⌜ r ≡ series (u8At (now (s .entry))) 0 48 ⌝ }
+{
+    let mut bytes = [0u8; 48];
+    for j in 0..48usize {
+        bytes[j] = u8_at(s, j);
     }
     bytes
 }

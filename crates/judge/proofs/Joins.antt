@@ -8,6 +8,7 @@ use native.Mathlib.Nat.{zero-add}
 use lib.ListN.{getD}
 use lib.Dec.{leb, ltb, eqb}
 use Rattle.fields.specs.Lists.{pick, all, series, seek}
+use borrow.Author.Tests.{not-true, not-false}
 use Rattle.fields.proofs.Tests.{series-at, seek-hit, seek-miss, seek-end}
 use Rattle.quantities.specs.declared.Kilowatt.{Kilowatt}
 use Rattle.quantities.specs.Quantities.{sizeOf}
@@ -115,9 +116,14 @@ module _ (b s : List ℕ) {h : Head} {t : Bool} (e : h ≡ headOf s) (asked-type
       let other-type : isLevelled (headOf s .«record_type») ≡ false = ap (λ (h : Head). isLevelled (h .«record_type»)) (sym e) ∙ sym asked-type ∙ y in
       rw other-type
 
-pub leaves-join : (b s : List ℕ) (i : ℕ) {h : Head} {o m changes : Bool} {x : Record} → h ≡ headOf s → o ≡ other b s i → changes ≡ changesState b s → x ≡ recordAt b i → m ≡ mustLeave h changes x → (o && m) ≡ leaves b s i
-unfolding leaves
-leaves-join b s i e p q x m = rw (p, m, x, q, e)
+module _ (b s : List ℕ) (i : ℕ) {o : Bool} (asked-other : o ≡ other b s i) where
+  pub none-leaves : not o ≡ true → false ≡ leaves b s i
+  unfolding leaves
+  none-leaves t = rw (sym asked-other ∙ not-true o t)
+
+  pub leaves-join : {h : Head} {m changes : Bool} {x : Record} → not o ≡ false → h ≡ headOf s → changes ≡ changesState b s → x ≡ recordAt b i → m ≡ mustLeave h changes x → m ≡ leaves b s i
+  unfolding leaves
+  leaves-join t e q x m = m ∙ rw (sym asked-other ∙ not-false o t, x, q, e)
 
 pub stays-join : (b s : List ℕ) (i held : ℕ) {h : Head} {l t : Bool} → h ≡ headOf s → l ≡ live b (h .stamp .0) i → t ≡ leaves b s i → held ≡ holder b s → (l && not t && not (eqb (h .operation) 3 && eqb i held)) ≡ stays b s i
 unfolding stays

@@ -228,8 +228,10 @@ fn leaves_at(b: &[u8], report: &[u8], held: u8, changes: bool, i: u8) -> bool
     requires { ⌜ (held ≡ holder (now b) (now report)) × (changes ≡ changesState (now b) (now report)) ⌝ }
     ensures { λ r. ⌜ r ≡ leaves (now (b .entry)) (now (report .entry)) i ⌝ }
 {
-    let h = report::head_of(report);
-    is_other(b, report, held, i) & must_leave(h, changes, record_at(b, i))
+    if !is_other(b, report, held, i) {
+        return false;
+    }
+    must_leave(report::head_of(report), changes, record_at(b, i))
 }
 
 // Slot i keeps its record.
@@ -278,25 +280,28 @@ fn asked(number: u8, yes: bool, next: u8) -> u8
 fn form_number(b: &[u8], report: &[u8]) -> u8
     ensures { λ r. ⌜ r ≡ formNumber (now (b .entry)) (now (report .entry)) 0 ⌝ }
 {
+    if !form::fields_pass(report) {
+        return 4;
+    }
     let h = report::head_of(report);
-    let is_event = h.record_type == 6;
     let is_withdrawal = h.operation == 3;
-    let q4 = form::fields_pass(report);
     let kind = block::unit_head(b).kind;
-    let q5 = records::is_carried(kind, records::record_of(report));
-    let q6 = is_withdrawal | form::times_are_honest(h);
-    let q7 = is_withdrawal | form::ends_are_on_quarters(report);
-    let q8 = form::parts_pass(report);
-    let q9 = is_event | is_withdrawal | form::powers_pass(report);
-    asked(
-        4,
-        q4,
-        asked(
-            5,
-            q5,
-            asked(6, q6, asked(7, q7, asked(8, q8, asked(9, q9, 0)))),
-        ),
-    )
+    if !records::is_carried(kind, records::record_by(h)) {
+        return 5;
+    }
+    if !(is_withdrawal | form::times_are_honest(h)) {
+        return 6;
+    }
+    if !(is_withdrawal | form::ends_are_on_quarters(report)) {
+        return 7;
+    }
+    if !form::parts_pass(report) {
+        return 8;
+    }
+    if (h.record_type == 6) | is_withdrawal {
+        return 0;
+    }
+    asked(9, form::powers_pass(report), 0)
 }
 
 // Questions 10 to 15.
@@ -305,25 +310,32 @@ fn record_number(b: &[u8], report: &[u8], held: u8) -> u8
     ensures { λ r. ⌜ r ≡ recordNumber (now (b .entry)) (now (report .entry)) 0 ⌝ }
 {
     let h = report::head_of(report);
-    let is_event = h.record_type == 6;
     let is_creation = h.operation == 1;
+    let skips_15 = h.operation == 3;
     let last = block::unit_head(b).last_stamp;
+    if !(last.0 <= h.stamp.0) {
+        return 10;
+    }
+    if h.record_type == 6 {
+        return 0;
+    }
+    if !(!is_creation | !(held < 8)) {
+        return 11;
+    }
+    if !(is_creation | (held < 8)) {
+        return 12;
+    }
     let x = record_at(b, held);
-    let q10 = last.0 <= h.stamp.0;
-    let q11 = is_event | (!is_creation | !(held < 8));
-    let q12 = is_event | (is_creation | (held < 8));
-    let q13 = is_event | is_of_holder(h, x);
-    let q14 = is_event | may_move(h, x);
-    let q15 = is_event | (h.operation == 3) | clashes_are_closed(b, report, held);
-    asked(
-        10,
-        q10,
-        asked(
-            11,
-            q11,
-            asked(12, q12, asked(13, q13, asked(14, q14, asked(15, q15, 0)))),
-        ),
-    )
+    if !is_of_holder(h, x) {
+        return 13;
+    }
+    if !may_move(h, x) {
+        return 14;
+    }
+    if skips_15 {
+        return 0;
+    }
+    asked(15, clashes_are_closed(b, report, held), 0)
 }
 
 // Questions 16 to 19.
@@ -332,15 +344,26 @@ fn limit_number(b: &[u8], report: &[u8], held: u8) -> u8
     ensures { λ r. ⌜ r ≡ limitNumber (now (b .entry)) (now (report .entry)) 0 ⌝ }
 {
     let h = report::head_of(report);
-    let is_event = h.record_type == 6;
-    let skipped = is_event | (h.operation == 3);
+    if h.operation == 3 {
+        return 0;
+    }
+    if h.record_type == 6 {
+        return asked(18, state_may_change(b, report, held), 0);
+    }
+    if !deratings_fit(b, report) {
+        return 16;
+    }
+    if !minutes_fit(b, report, held) {
+        return 17;
+    }
+    if !state_may_change(b, report, held) {
+        return 18;
+    }
+    if h.operation != 1 {
+        return 0;
+    }
     let changes = changes_state(b, report, held);
-    let q16 = skipped | deratings_fit(b, report);
-    let q17 = skipped | minutes_fit(b, report, held);
-    let q18 = (h.operation == 3) | state_may_change(b, report, held);
-    let creates = (h.operation == 1) & !is_event;
-    let q19 = skipped | (!creates | (lowest_free(b, report, held, changes) < 8));
-    asked(16, q16, asked(17, q17, asked(18, q18, asked(19, q19, 0))))
+    asked(19, lowest_free(b, report, held, changes) < 8, 0)
 }
 
 // The number of the first "no", or 0.
@@ -365,9 +388,10 @@ fn slot_written(b: &[u8], report: &[u8], held: u8, changes: bool) -> u8
     ensures { λ r. ⌜ r ≡ slotWritten (now (b .entry)) (now (report .entry)) ⌝ }
 {
     let h = report::head_of(report);
-    let creates = (h.operation == 1) & !(h.record_type == 6);
-    let changed = records::choose_code(h.operation == 2, held, 8);
-    records::choose_code(creates, lowest_free(b, report, held, changes), changed)
+    if (h.operation == 1) & !(h.record_type == 6) {
+        return lowest_free(b, report, held, changes);
+    }
+    records::choose_code(h.operation == 2, held, 8)
 }
 
 // Some record leaves.

@@ -1,13 +1,14 @@
 -- The sweep: what was found up to a minute, and a turn. Assumes nothing.
 use Prim.Native.Nat.{ℕ, _+_, _-_, _≤_, _<_}
 use mathlib.Core.Path.{_≡_, refl, ap, sym, _∙_}
-use mathlib.Core.Bool.{Bool, true, false, _&&_, _||_}
+use mathlib.Core.Bool.{Bool, true, false, _&&_, _||_, and-true, or-false}
 use mathlib.Core.List.{List}
 use mathlib.Core.Logic.{_⊎_, inl, inr, ⊎-elim}
 use native.Mathlib.Omega.{arith}
+use Rattle.rules.specs.declared.Level.{Level}
 use Rattle.rules.specs.declared.Levels.{Levels}
 use Rattle.rules.specs.declared.PowerRange.{PowerRange}
-use Rattle.rules.specs.Minutes.{Work, levelsAt, levelsFit, aboveMax, belowMin, levelsEvery, levelsSome}
+use Rattle.rules.specs.Minutes.{Work, levelAmong, levelsAt, levelsFit, aboveMax, belowMin, levelsEvery, levelsSome}
 use Rattle.levels.specs.declared.Findings.{Findings}
 use Rattle.levels.specs.Findings.{withSpell, findings}
 use Rattle.levels.specs.Stays.{Holds}
@@ -26,6 +27,25 @@ module _ (kind : ℕ) (range : PowerRange) (ws : List Work) (direction start : �
         above = some-turn start o (holds-of h (aboveMax kind range)) i;
         below = some-turn start o (holds-of h (belowMin kind range)) i;
       }
+
+  -- minutes without forced work: nothing is found in them
+  module _ {m n : ℕ} {v : Level} (from : start ≤ m) (h : Holds (levelAmong ws 4 direction) m v n) (none : v .there ≡ false) where
+    quiet : (test : Levels → Bool) (t : Bool) → ((l : Levels) → l .forced .there ≡ false → test l ≡ t) → Holds (λ k. test (levelsAt ws direction k)) m t n
+    unfolding levelsAt
+    quiet test t f = record { later = h .later; same = λ k a b. f (levelsAt ws direction k) (ap (λ (l : Level). l .there) (h .same k a b) ∙ none) }
+
+    every-quiet : (test : Levels → Bool) → ((l : Levels) → l .forced .there ≡ false → test l ≡ true) → levelsEvery test ws direction start n ≡ levelsEvery test ws direction start m
+    unfolding levelsEvery
+    every-quiet test f = every-turn start from (quiet test true f) ∙ and-true (levelsEvery test ws direction start m)
+
+    some-quiet : (test : Levels → Bool) → ((l : Levels) → l .forced .there ≡ false → test l ≡ false) → levelsSome test ws direction start n ≡ levelsSome test ws direction start m
+    unfolding levelsSome
+    some-quiet test f = some-turn start from (quiet test false f) ∙ or-false (levelsSome test ws direction start m)
+
+    found-quiet : findings kind range ws direction start n ≡ findings kind range ws direction start m
+    unfolding findings levelsFit aboveMax belowMin
+    found-quiet =
+        rw (every-quiet (levelsFit kind range) (λ l e. rw e), some-quiet (aboveMax kind range) (λ l e. rw e), some-quiet (belowMin kind range) (λ l e. rw e))
 
   -- where no minute is left
   found-empty : {m end : ℕ} → m ≤ start → end ≤ start → findings kind range ws direction start m ≡ findings kind range ws direction start end
@@ -52,6 +72,16 @@ module _ (kind : ℕ) (range : PowerRange) (ws : List Work) (direction start : �
         from = omega arith;
         to = inl (z .two);
         found = e ∙ ap (λ (g : Findings). withSpell g kind range l) (w .found) ∙ sym (found-turn (w .from) (holds-less h up (z .one)));
+      }
+
+  pub judged-quiet : {end m n until : ℕ} {g : Findings} {v : Level} → Judged end m g → m < end → Holds (levelAmong ws 4 direction) m v until → v .there ≡ false → Sooner until end n → Judged end n g
+  judged-quiet {end} {m} {n} {until} {g} {v} w o h e z =
+      let up = z .above m (h .later) o in
+      let before = w .from in
+      record {
+        from = omega arith;
+        to = inl (z .two);
+        found = w .found ∙ sym (found-quiet (w .from) (holds-less h up (z .one)) e);
       }
 
   pub judged-all : {end m : ℕ} {g : Findings} → Judged end m g → end ≤ m → g ≡ findings kind range ws direction start end

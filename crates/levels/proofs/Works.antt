@@ -4,6 +4,7 @@ use mathlib.Core.Path.{_≡_, refl, ap, sym, _∙_, subst}
 use mathlib.Core.Bool.{Bool, true, false, _&&_}
 use mathlib.Core.List.{List, [], _∷_}
 use native.Mathlib.Omega.{arith}
+use lib.Dec.{eqb}
 use lib.ListN.{getD}
 use Rattle.fields.specs.Lists.{pick, series}
 use Rattle.quantities.specs.declared.Minute.{Minute}
@@ -14,7 +15,7 @@ use Rattle.rules.specs.declared.Level.{Level}
 use Rattle.rules.specs.declared.Levels.{Levels}
 use Rattle.rules.specs.declared.Record.{Record}
 use Rattle.rules.specs.Block.{slotCount, slotAt, recordIn, storedCount, pairsFrom, partsIn}
-use Rattle.rules.specs.Questions.{recordOf}
+use Rattle.rules.specs.Questions.{recordOf, recordAt}
 use Rattle.rules.specs.Minutes.{noLevel, levelIn, Work, levelOf, orElse, levelAmong, worksAmong, levelsAt}
 use Rattle.levels.specs.declared.Point.{Point}
 use Rattle.levels.specs.Points.{pointAt, levelAmongPoints, levelOfPoints}
@@ -77,6 +78,11 @@ module _ (b : List ℕ) (test : ℕ → Bool) (type direction : ℕ) where
     unfolding levelAmong pick
     slots-counted t p q e s = rw (down, t) (holds-by (first-joins p q e s) (λ k. refl))
 
+    -- a record of another type or direction has no level
+    pub slots-another : {m n : ℕ} {v : Level} {t : Bool} → test (i - 1) ≡ true → t ≡ (eqb (recordAt b (i - 1) .«record_type») type && eqb (recordAt b (i - 1) .direction) direction) → t ≡ false → Holds (levelAmong (worksAmong b test i (8 - i)) type direction) m v n → Holds (levelAmong (worksAmong b test (i - 1) (8 - (i - 1))) type direction) m v n
+    unfolding levelAmong levelOf pick
+    slots-another y e f p = rw (down, y) (holds-by p (λ k. rw (sym e ∙ f)))
+
     pub slots-passed : {m n : ℕ} {v : Level} → test (i - 1) ≡ false → Holds (levelAmong (worksAmong b test i (8 - i)) type direction) m v n → Holds (levelAmong (worksAmong b test (i - 1) (8 - (i - 1))) type direction) m v n
     unfolding pick
     slots-passed t p = rw (down, t) p
@@ -86,6 +92,10 @@ module _ (b s : List ℕ) (counted : List Bool) (type direction : ℕ) {t : Bool
   pub swept-with : {n₁ n₂ n : ℕ} {v₁ v₂ v : Level} → t ≡ true → Holds (levelOf (reportWork s) type direction) m v₁ n₁ → Holds (levelAmong (countedWorks b counted) type direction) m v₂ n₂ → v ≡ orElse v₁ v₂ → Sooner n₁ n₂ n → Holds (levelAmong (sweptWorks b s counted t) type direction) m v n
   unfolding sweptWorks levelAmong pick
   swept-with e p q o z = rw e (holds-by (first-joins p q o z) (λ k. refl))
+
+  pub swept-another : {n : ℕ} {v : Level} {o : Bool} → t ≡ true → o ≡ (eqb (recordOf s .«record_type») type && eqb (recordOf s .direction) direction) → o ≡ false → Holds (levelAmong (countedWorks b counted) type direction) m v n → Holds (levelAmong (sweptWorks b s counted t) type direction) m v n
+  unfolding sweptWorks levelAmong levelOf pick
+  swept-another y e f p = rw y (holds-by p (λ k. rw (sym e ∙ f)))
 
   pub swept-without : {n : ℕ} {v : Level} → t ≡ false → Holds (levelAmong (countedWorks b counted) type direction) m v n → Holds (levelAmong (sweptWorks b s counted t) type direction) m v n
   unfolding sweptWorks pick

@@ -6,12 +6,13 @@ use rules::Levels;
 use rules::PowerRange;
 use rules::Record;
 ghost use mathlib.Core.Path.{_≡_};
-ghost use mathlib.Core.Bool.{_&&_};
+ghost use mathlib.Core.Bool.{true, _&&_};
 ghost use Prim.Native.Nat.{_<_};
 ghost use lib.Dec.{eqb};
 ghost use Rattle.fields.specs.Lists.{series};
 ghost use Rattle.report.specs.Report.{headOf};
 ghost use Rattle.rules.specs.Minutes.{noLevel, levelOf, orElse, levelAmong, levelsAt, fitsW1M1, fitsZ1, levelsFit, aboveMax, belowMin};
+ghost use Rattle.rules.specs.Questions.{recordOf, recordAt};
 ghost use Rattle.levels.specs.Points.{pointAt, levelAmongPoints, levelOfPoints};
 ghost use Rattle.quantities.specs.Quantities.{earlierOf};
 ghost use Rattle.levels.specs.Works.{reportWork, slotWork, countedWorks, sweptWorks};
@@ -65,6 +66,17 @@ fn none_until(until: Minute) -> Step
     Step { level, until }
 }
 
+// Where point j ends.
+fn end_at(s: &[u8], in_report: bool, j: u16) -> Minute
+    ensures { λ r. ⌜ r ≡ pointAt (now (s .entry)) «in_report» j .end ⌝ }
+{
+    if in_report {
+        quantities::minute_at(s, 56 + 16 * (j as usize))
+    } else {
+        quantities::minute_at(s, 88 + 8 * (j as usize))
+    }
+}
+
 fn point_at(s: &[u8], in_report: bool, j: u16) -> Point
     ensures { λ r. ⌜ r ≡ pointAt (now (s .entry)) «in_report» j ⌝ }
 {
@@ -88,10 +100,9 @@ fn step_among(s: &[u8], list: PointList, m: Minute) -> Step
 {
     let count = list.count;
     for j in 0..count {
-        let p = point_at(s, list.in_report, j);
-        if m.0 < p.end.0 {
-            let power = p.power;
-            let until = p.end;
+        let until = end_at(s, list.in_report, j);
+        if m.0 < until.0 {
+            let power = point_at(s, list.in_report, j).power;
             let level = Level { there: true, power };
             return Step { level, until };
         }
@@ -105,7 +116,7 @@ fn is_of(r: Record, record_type: u8, direction: u8) -> bool
     (r.record_type == record_type) & (r.direction == direction)
 }
 
-// The level of a record whose points lie in `s`.
+// The level of a record of this type and direction whose points lie in `s`.
 fn record_step(
     s: &[u8],
     r: Record,
@@ -115,11 +126,9 @@ fn record_step(
     m: Minute,
 ) -> Step
     requires { ⌜ m .0 < 4294967295 ⌝ }
+    requires { ⌜ (eqb (r .«record_type») «record_type» && eqb (r .direction) direction) ≡ true ⌝ }
     ensures { λ b. ⌜ Stays (levelOfPoints r (series (pointAt (now (s .entry)) (list .«in_report»)) 0 (list .count)) «record_type» direction) (m .0) b ⌝ }
 {
-    if !is_of(r, record_type, direction) {
-        return none_until(Minute(4294967295));
-    }
     let start = r.period.start;
     let end = r.period.end;
     if m.0 < start.0 {
@@ -134,8 +143,25 @@ fn record_step(
     Step { level, until }
 }
 
+fn report_is_of(report: &[u8], record_type: u8, direction: u8) -> bool
+    ensures { λ b. ⌜ b ≡ (eqb (recordOf (now (report .entry)) .«record_type») «record_type» && eqb (recordOf (now (report .entry)) .direction) direction) ⌝ }
+{
+    is_of(records::record_of(report), record_type, direction)
+}
+
+fn slot_is_of(b: &[u8], i: u8, record_type: u8, direction: u8) -> bool
+    ensures { λ t. ⌜ t ≡ (eqb (recordAt (now (b .entry)) i .«record_type») «record_type» && eqb (recordAt (now (b .entry)) i .direction) direction) ⌝ }
+{
+    is_of(
+        block::record_in(block::slot_at(b, i)),
+        record_type,
+        direction,
+    )
+}
+
 fn report_step(report: &[u8], record_type: u8, direction: u8, m: Minute) -> Step
     requires { ⌜ m .0 < 4294967295 ⌝ }
+    requires { ⌜ (eqb (recordOf (now report) .«record_type») «record_type» && eqb (recordOf (now report) .direction) direction) ≡ true ⌝ }
     ensures { λ r. ⌜ Stays (levelOf (reportWork (now (report .entry))) «record_type» direction) (m .0) r ⌝ }
 {
     let h = report::head_of(report);
@@ -155,6 +181,7 @@ fn report_step(report: &[u8], record_type: u8, direction: u8, m: Minute) -> Step
 
 fn slot_step(b: &[u8], i: u8, record_type: u8, direction: u8, m: Minute) -> Step
     requires { ⌜ m .0 < 4294967295 ⌝ }
+    requires { ⌜ (eqb (recordAt (now b) i .«record_type») «record_type» && eqb (recordAt (now b) i .direction) direction) ≡ true ⌝ }
     ensures { λ r. ⌜ Stays (levelOf (slotWork (now (b .entry)) i) «record_type» direction) (m .0) r ⌝ }
 {
     let z = block::slot_at(b, i);
@@ -184,8 +211,10 @@ fn slots_step(b: &[u8], counted: [bool; 8], record_type: u8, direction: u8, m: M
     while 0 < i {
         i -= 1;
         if counted[i as usize] {
-            let next = slot_step(b, i, record_type, direction, m);
-            r = first_of(next, r);
+            if slot_is_of(b, i, record_type, direction) {
+                let next = slot_step(b, i, record_type, direction, m);
+                r = first_of(next, r);
+            }
         }
     }
     r
@@ -205,18 +234,21 @@ fn level_at(
 {
     let counted = swept.counted;
     let slots = slots_step(b, counted, record_type, direction, m);
-    if swept.with_report {
-        first_of(report_step(report, record_type, direction, m), slots)
-    } else {
-        slots
+    if !swept.with_report {
+        return slots;
     }
+    if !report_is_of(report, record_type, direction) {
+        return slots;
+    }
+    first_of(report_step(report, record_type, direction, m), slots)
 }
 
-fn levels_at(b: &[u8], report: &[u8], swept: Swept, direction: u8, m: Minute) -> Spell
+// The three levels in a minute, after that of forced work.
+fn levels_at(b: &[u8], report: &[u8], swept: Swept, direction: u8, m: Minute, f: Step) -> Spell
     requires { ⌜ m .0 < 4294967295 ⌝ }
+    requires { ⌜ Stays (levelAmong (sweptWorks (now b) (now report) (swept .counted) (swept .«with_report»)) 4 direction) (m .0) f ⌝ }
     ensures { λ r. ⌜ Stood (levelsAt (sweptWorks (now (b .entry)) (now (report .entry)) (swept .counted) (swept .«with_report»)) direction) (m .0) r ⌝ }
 {
-    let f = level_at(b, report, swept, 4, direction, m);
     let p = level_at(b, report, swept, 2, direction, m);
     let n = level_at(b, report, swept, 3, direction, m);
     let forced = f.level;
@@ -293,6 +325,7 @@ fn add_spell(g: Findings, kind: u8, range: PowerRange, l: Levels) -> Findings
 }
 
 // Question 17 and warnings 2 and 4 in every minute of a period: a turn for each change of a level, none for a minute.
+// Without forced work nothing is found, so the deratings are not looked up.
 pub fn sweep(b: &[u8], report: &[u8], swept: Swept, kind: u8, range: PowerRange) -> Findings
     ensures { λ r. ⌜ r ≡ findings kind range (sweptWorks (now (b .entry)) (now (report .entry)) (swept .counted) (swept .«with_report»)) (headOf (now (report .entry)) .direction) (headOf (now (report .entry)) .period .start .0) (headOf (now (report .entry)) .period .end .0) ⌝ }
 {
@@ -306,10 +339,15 @@ pub fn sweep(b: &[u8], report: &[u8], swept: Swept, kind: u8, range: PowerRange)
         below: false,
     };
     while m.0 < end.0 {
-        let spell = levels_at(b, report, swept, direction, m);
-        let levels = spell.levels;
-        g = add_spell(g, kind, range, levels);
-        m = quantities::earlier(spell.until, end);
+        let forced = level_at(b, report, swept, 4, direction, m);
+        if forced.level.there {
+            let spell = levels_at(b, report, swept, direction, m, forced);
+            let levels = spell.levels;
+            g = add_spell(g, kind, range, levels);
+            m = quantities::earlier(spell.until, end);
+        } else {
+            m = quantities::earlier(forced.until, end);
+        }
     }
     g
 }

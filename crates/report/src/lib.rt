@@ -5,6 +5,8 @@ use quantities::Period;
 use quantities::SignedKilowatt;
 ghost use mathlib.Core.Path.{_≡_};
 ghost use Prim.Native.Nat.{_+_, _≤_};
+ghost use lib.ListN.{length};
+ghost use Rattle.fields.specs.Fields.{u16At, u32At};
 ghost use Rattle.fields.specs.Lists.{series};
 ghost use Rattle.report.specs.Report.{headOf, partAt, partsOf, sized, partMarked, partsMarked, marked, whole};
 ghost use Rattle.report.specs.Cover.{fits, rest, covers, partsCover};
@@ -33,28 +35,56 @@ pub struct Part {
     pub power: SignedKilowatt,
 }
 
-pub fn head_of(report: &[u8]) -> Head
+// u16_at and u32_at where the bytes are there: loads and no test.
+fn u16_in(s: &[u8], at: usize) -> u16
+    requires { ⌜ at + 2 ≤ length (now s) ⌝ }
+    ensures { λ r. ⌜ r ≡ u16At (now (s .entry)) at ⌝ }
+{
+    fields::u16_of(s[at], s[at + 1])
+}
+
+fn u32_in(s: &[u8], at: usize) -> u32
+    requires { ⌜ at + 4 ≤ length (now s) ⌝ }
+    ensures { λ r. ⌜ r ≡ u32At (now (s .entry)) at ⌝ }
+{
+    fields::u32_of(s[at], s[at + 1], s[at + 2], s[at + 3])
+}
+
+// head_of where the head is known to be there: loads without a test each.
+fn read_head(report: &[u8]) -> Head
+    requires { ⌜ 48 ≤ length (now report) ⌝ }
     ensures { λ r. ⌜ r ≡ headOf (now (report .entry)) ⌝ }
 {
     let identifier = fields::bytes16_at(report, 16);
-    let stamp = quantities::minute_at(report, 32);
-    let period = quantities::period_at(report, 36);
+    let stamp = Minute(u32_in(report, 32));
+    let start = Minute(u32_in(report, 36));
+    let end = Minute(u32_in(report, 40));
+    let period = Period { start, end };
     Head {
-        unit: u16_at(report, 2),
-        owner: u16_at(report, 4),
-        record_type: fields::u8_at(report, 6),
-        operation: fields::u8_at(report, 7),
-        direction: fields::u8_at(report, 8),
-        start_mark: fields::u8_at(report, 9),
-        end_mark: fields::u8_at(report, 10),
-        qualification: fields::u8_at(report, 11),
-        ordinal: u16_at(report, 12),
-        part_count: u16_at(report, 14),
+        unit: u16_in(report, 2),
+        owner: u16_in(report, 4),
+        record_type: report[6],
+        operation: report[7],
+        direction: report[8],
+        start_mark: report[9],
+        end_mark: report[10],
+        qualification: report[11],
+        ordinal: u16_in(report, 12),
+        part_count: u16_in(report, 14),
         identifier,
         stamp,
         period,
-        text_length: u16_at(report, 44),
+        text_length: u16_in(report, 44),
     }
+}
+
+pub fn head_of(report: &[u8]) -> Head
+    ensures { λ r. ⌜ r ≡ headOf (now (report .entry)) ⌝ }
+{
+    if 48 <= report.len() {
+        return read_head(report);
+    }
+    read_head(&fields::first48(report))
 }
 
 // Part i, from 0.
@@ -62,6 +92,14 @@ pub fn part_at(report: &[u8], i: u16) -> Part
     ensures { λ r. ⌜ r ≡ partAt (now (report .entry)) i ⌝ }
 {
     let at = 48 + 16 * (i as usize);
+    if at + 16 <= report.len() {
+        let times = at + 4;
+        let start = Minute(u32_in(report, times));
+        let end = Minute(u32_in(report, times + 4));
+        let period = Period { start, end };
+        let power = quantities::signed_kilowatt_at(report, at + 12);
+        return Part { period, power };
+    }
     let period = quantities::period_at(report, at + 4);
     let power = quantities::signed_kilowatt_at(report, at + 12);
     Part { period, power }

@@ -15,10 +15,10 @@ abbrev μ-loop : tie.MeasureT-loop
 μ-loop s list m count j₀ j = count - j
 
 returns : tie.Need-returns Inv-loop μ-loop
-returns c = passed-hit (c .before .before .before .before .before .before .before .loop .inv .1) (omega arith) (c .before .before .before .before .before .point-at .ensures) (c .before .before .if1 .taken)
+returns c = passed-hit (c .before .before .before .before .before .before .before .loop .inv .1) (omega arith) (c .before .before .before .before .before .end-at .ensures) (c .before .point-at .ensures) (c .before .before .if1 .taken)
 
 loop-again : tie.Need-loop-again Inv-loop μ-loop
-loop-again c = (c .before .before .before .before .before .loop .inv .0, passed-more (c .before .before .before .before .before .loop .inv .1) (omega arith) (c .before .before .before .point-at .ensures) (c .if1 .left))
+loop-again c = (c .before .before .before .before .before .loop .inv .0, passed-more (c .before .before .before .before .before .loop .inv .1) (omega arith) (c .before .before .before .end-at .ensures) (c .if1 .left))
 
 returns-2 : tie.Need-returns-2 Inv-loop μ-loop
 returns-2 c = passed-all (c .before .before .loop .inv .1) (omega arith) (c .none-until .ensures .0) (omega (arith, ap (λ (x : Minute). x .0) (c .none-until .ensures .1)))
@@ -30,6 +30,7 @@ step-among-spec =
     Inv-loop
     μ-loop
     (λ c. (refl, passed-none))
+    (λ c κs. search needs)
     (λ c κs. search needs)
     returns
     (λ c. search needs)

@@ -5,8 +5,8 @@ use lib.ListN.{length, take, length-set}
 use Rattle.fields.specs.Lists.{series}
 use Rattle.fields.specs.Fields.{u8At}
 use Rattle.fields.proofs.Stretches.{filled-none, filled-more, filled-all, series-past}
-use Rattle.fields.proofs.bytes16_at.Statement.{statement}
-use Rattle.fields.proofs.bytes16_at.Tie as tie
+use Rattle.fields.proofs.bytes16_padded.Statement.{statement}
+use Rattle.fields.proofs.bytes16_padded.Tie as tie
 
 abbrev Inv-loop : tie.InvT-loop
 Inv-loop s at bytes₀ j₀ bytes j = (j ≤ 16) × (length bytes ≡ 16) × (take j bytes ≡ series (u8At s) at j)
@@ -25,8 +25,8 @@ returns c =
 returns-2 : tie.Need-returns-2 Inv-loop μ-loop
 returns-2 c = sym (series-past (c .before .before .args .s .now) _ 16 (c .if1 .left))
 
-pub bytes16-at-spec : {M : Type 1} → statement M
-bytes16-at-spec =
+pub bytes16-padded-spec : {M : Type 1} → statement M
+bytes16-padded-spec =
     tie.close
     (tie.spec
     Inv-loop
