@@ -24,7 +24,7 @@ ghost use mathlib.Core.Path.{_≡_};
 ghost use mathlib.Core.Bool.{not, _||_};
 ghost use Prim.Native.Nat.{_+_, _*_, _≤_, _<_};
 ghost use lib.ListN.{length};
-ghost use Rattle.fields.specs.Fields.{u16At, u32At};
+ghost use Rattle.fields.specs.Fields.{u8At, u16At, u32At};
 ghost use Rattle.fields.specs.Lists.{all, series, part};
 ghost use Rattle.rules.specs.Roster.{powersAt, entryOf, entryGood, piece, rosterGood};
 ghost use Rattle.rules.specs.Block.{zeros, zerosAt, unitHead, slotAt, used, recordIn, storedCount};
@@ -126,11 +126,35 @@ fn read_unit_head(b: &[u8]) -> UnitHead
     }
 }
 
+fn identifier_in(z: &[u8]) -> [u8; 16]
+    requires { ⌜ 36 ≤ length (now z) ⌝ }
+    ensures { λ r. ⌜ r ≡ series (u8At (now (z .entry))) 8 16 ⌝ }
+{
+    [
+        z[8],
+        z[9],
+        z[10],
+        z[11],
+        z[12],
+        z[13],
+        z[14],
+        z[15],
+        z[16],
+        z[17],
+        z[18],
+        z[19],
+        z[20],
+        z[21],
+        z[22],
+        z[23],
+    ]
+}
+
 fn read_record(z: &[u8]) -> Record
     requires { ⌜ 36 ≤ length (now z) ⌝ }
     ensures { λ r. ⌜ r ≡ recordIn (now (z .entry)) ⌝ }
 {
-    let identifier = fields::bytes16_at(z, 8);
+    let identifier = identifier_in(z);
     let stamp = Minute(u32_in(z, 24));
     let start = Minute(u32_in(z, 28));
     let end = Minute(u32_in(z, 32));

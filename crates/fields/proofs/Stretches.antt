@@ -5,10 +5,9 @@ use mathlib.Core.List.{List, [], _∷_, _++_, append-assoc}
 use native.Mathlib.Omega.{arith}
 use native.Mathlib.Nat.{add-zero, add-suc, suc-add, le-of-suc-le-suc, not-suc-le-zero}
 use native.Mathlib.Numerals.{add-one}
-use lib.ListN.{length, getD, set, take, drop, replicate, length-set, length-drop, length-take, take-append-drop, List·getD-append, List·getD-eq-default}
+use lib.ListN.{length, getD, set, take, drop, length-set, length-drop, length-take, take-append-drop, List·getD-append}
 use lib.Seq.{length-sets, sets-eq, set-out, getD-set-other, length-take-le, getD-take, getD-drop, drop-drop, drop-at, take-at, ext-getD, take-suc-set, take-all, take-append-le, drop-append-le}
 use Rattle.fields.specs.Lists.{series, part, put}
-use Rattle.fields.specs.Fields.{u8At}
 
 -- a and b have the same elements from lo up to hi
 pub record Same (a b : List ℕ) (lo hi : ℕ) : Type 0 where
@@ -158,9 +157,3 @@ module _ {A : Type 0} where
 
   pub filled-all : (d p : List A) (n : ℕ) → length d ≡ n → take n d ≡ p → d ≡ p
   filled-all d p n e q = sym (take-all n d (omega arith)) ∙ q
-
--- past the end every byte is 0
-pub series-past : (s : List ℕ) (at n : ℕ) → length s ≤ at → series (u8At s) at n ≡ replicate n 0
-unfolding series
-series-past s at zero h = refl
-series-past s at (suc n) h = rw (List·getD-eq-default s 0 h, series-past s (at + 1) n (omega arith))

@@ -38,18 +38,6 @@ pub fn u32_of(a: u8, b: u8, c: u8, d: u8) -> u32
     wider(a) + 256 * wider(b) + 65536 * wider(c) + 16777216 * wider(d)
 }
 
-// Where the bytes are there: loads and no test.
-fn bytes16_in(s: &[u8], at: usize) -> [u8; 16]
-    requires { ⌜ at + 16 ≤ length (now s) ⌝ }
-    ensures { λ r. ⌜ r ≡ series (u8At (now (s .entry))) at 16 ⌝ }
-{
-    let mut bytes = [0u8; 16];
-    for j in 0..16usize {
-        bytes[j] = s[at + j];
-    }
-    bytes
-}
-
 pub fn u16_at(s: &[u8], at: usize) -> u16
     ensures { λ r. ⌜ r ≡ u16At (now (s .entry)) at ⌝ }
 {
@@ -74,31 +62,6 @@ pub fn u32_at(s: &[u8], at: usize) -> u32
         return 0;
     }
     (u16_at(s, at) as u32) + 65536 * (u16_at(s, at + 2) as u32)
-}
-
-// What lies past the end is 0.
-fn bytes16_padded(s: &[u8], at: usize) -> [u8; 16]
-    ensures { λ r. ⌜ r ≡ series (u8At (now (s .entry))) at 16 ⌝ }
-{
-    let mut bytes = [0u8; 16];
-    if at < s.len() {
-        for j in 0..16usize {
-            bytes[j] = u8_at(s, at + j);
-        }
-    }
-    bytes
-}
-
-// Sixteen bytes, as an identifier has them.
-pub fn bytes16_at(s: &[u8], at: usize) -> [u8; 16]
-    ensures { λ r. ⌜ r ≡ series (u8At (now (s .entry))) at 16 ⌝ }
-{
-    if 16 <= s.len() {
-        if at <= s.len() - 16 {
-            return bytes16_in(s, at);
-        }
-    }
-    bytes16_padded(s, at)
 }
 
 // The first 48 bytes; what lies past the end is 0.

@@ -1,6 +1,17 @@
 // Questions 10 to 19 on a unit's block, and the number of the first "no".
 use levels::Swept;
 use quantities::Minute;
+use records::CHANGE;
+use records::CREATE;
+use records::EVENT;
+use records::EXECUTED;
+use records::FORCED_WORK;
+use records::NEGATIVE_DERATING;
+use records::OFF_GRID;
+use records::POSITIVE_DERATING;
+use records::STOP;
+use records::W1;
+use records::WITHDRAW;
 use report::Head;
 use report::Part;
 use rules::PowerRange;
@@ -71,7 +82,7 @@ fn is_other(b: &[u8], report: &[u8], held: u8, i: u8) -> bool
 {
     let h = report::head_of(report);
     let live = is_live(b, h.stamp, i);
-    live & !((h.operation == 2) & (i == held))
+    live & !((h.operation == CHANGE) & (i == held))
 }
 
 fn other_slots(b: &[u8], report: &[u8], held: u8) -> [bool; 8]
@@ -89,7 +100,7 @@ fn other_slots(b: &[u8], report: &[u8], held: u8) -> [bool; 8]
 fn is_of_holder(h: Head, held: Record) -> bool
     ensures { λ r. ⌜ r ≡ ofHolder h held ⌝ }
 {
-    (h.operation == 1)
+    (h.operation == CREATE)
         | ((h.record_type == held.record_type)
             & (h.direction == held.direction)
             & (h.qualification == held.qualification)
@@ -100,9 +111,11 @@ fn is_of_holder(h: Head, held: Record) -> bool
 fn may_move(h: Head, held: Record) -> bool
     ensures { λ r. ⌜ r ≡ mayMove h held ⌝ }
 {
-    (h.operation == 1)
-        | !(held.start_mark == 2)
-        | ((h.operation == 2) & (h.period.start.0 == held.period.start.0) & (h.start_mark == 2))
+    (h.operation == CREATE)
+        | !(held.start_mark == EXECUTED)
+        | ((h.operation == CHANGE)
+            & (h.period.start.0 == held.period.start.0)
+            & (h.start_mark == EXECUTED))
 }
 
 // Question 15, of one slot.
@@ -133,7 +146,8 @@ fn derating_fits(range: PowerRange, record_type: u8, p: Part) -> bool
     let power = quantities::wide(quantities::size_of(p.power));
     let max = quantities::wide(range.max);
     let min = quantities::wide(range.min);
-    (!(record_type == 2) | (power <= max)) & (!(record_type == 3) | (power + min <= max))
+    (!(record_type == POSITIVE_DERATING) | (power <= max))
+        & (!(record_type == NEGATIVE_DERATING) | (power + min <= max))
 }
 
 fn range_of(b: &[u8], direction: u8) -> PowerRange
@@ -165,9 +179,9 @@ fn deratings_fit(b: &[u8], report: &[u8]) -> bool
 fn begins(h: Head, held: Record) -> bool
     ensures { λ r. ⌜ r ≡ beginsBy h held ⌝ }
 {
-    (h.start_mark == 2)
-        & ((h.record_type == 1) | (h.record_type == 5))
-        & ((h.operation == 1) | ((h.operation == 2) & !(held.start_mark == 2)))
+    (h.start_mark == EXECUTED)
+        & ((h.record_type == STOP) | (h.record_type == OFF_GRID))
+        & ((h.operation == CREATE) | ((h.operation == CHANGE) & !(held.start_mark == EXECUTED)))
 }
 
 fn changes_state(b: &[u8], report: &[u8], held: u8) -> bool
@@ -176,7 +190,7 @@ fn changes_state(b: &[u8], report: &[u8], held: u8) -> bool
 {
     let h = report::head_of(report);
     let kind = block::unit_head(b).kind;
-    (kind == 1) & ((h.record_type == 6) | begins(h, record_at(b, held)))
+    (kind == W1) & ((h.record_type == EVENT) | begins(h, record_at(b, held)))
 }
 
 fn has_arrow(row: Row, h: Head) -> bool
@@ -199,7 +213,7 @@ fn must_leave(h: Head, changes: bool, x: Record) -> bool
     ensures { λ r. ⌜ r ≡ mustLeave h changes x ⌝ }
 {
     let r = records::record_by(h);
-    (!(h.operation == 3) & records::records_clash(r, x) & records::is_closed_by(r, x))
+    (!(h.operation == WITHDRAW) & records::records_clash(r, x) & records::is_closed_by(r, x))
         | (changes & records::holds_state(x))
 }
 
@@ -242,7 +256,7 @@ fn stays_at(b: &[u8], report: &[u8], held: u8, changes: bool, i: u8) -> bool
     let h = report::head_of(report);
     let live = is_live(b, h.stamp, i);
     let leaves = leaves_at(b, report, held, changes, i);
-    live & !leaves & !((h.operation == 3) & (i == held))
+    live & !leaves & !((h.operation == WITHDRAW) & (i == held))
 }
 
 fn staying_slots(b: &[u8], report: &[u8], held: u8, changes: bool) -> [bool; 8]
@@ -284,7 +298,7 @@ fn form_number(b: &[u8], report: &[u8]) -> u8
         return 4;
     }
     let h = report::head_of(report);
-    let is_withdrawal = h.operation == 3;
+    let is_withdrawal = h.operation == WITHDRAW;
     let kind = block::unit_head(b).kind;
     if !records::is_carried(kind, records::record_by(h)) {
         return 5;
@@ -298,7 +312,7 @@ fn form_number(b: &[u8], report: &[u8]) -> u8
     if !form::parts_pass(report) {
         return 8;
     }
-    if (h.record_type == 6) | is_withdrawal {
+    if (h.record_type == EVENT) | is_withdrawal {
         return 0;
     }
     asked(9, form::powers_pass(report), 0)
@@ -310,13 +324,13 @@ fn record_number(b: &[u8], report: &[u8], held: u8) -> u8
     ensures { λ r. ⌜ r ≡ recordNumber (now (b .entry)) (now (report .entry)) 0 ⌝ }
 {
     let h = report::head_of(report);
-    let is_creation = h.operation == 1;
-    let skips_15 = h.operation == 3;
+    let is_creation = h.operation == CREATE;
+    let skips_15 = h.operation == WITHDRAW;
     let last = block::unit_head(b).last_stamp;
     if !(last.0 <= h.stamp.0) {
         return 10;
     }
-    if h.record_type == 6 {
+    if h.record_type == EVENT {
         return 0;
     }
     if !(!is_creation | !(held < 8)) {
@@ -344,10 +358,10 @@ fn limit_number(b: &[u8], report: &[u8], held: u8) -> u8
     ensures { λ r. ⌜ r ≡ limitNumber (now (b .entry)) (now (report .entry)) 0 ⌝ }
 {
     let h = report::head_of(report);
-    if h.operation == 3 {
+    if h.operation == WITHDRAW {
         return 0;
     }
-    if h.record_type == 6 {
+    if h.record_type == EVENT {
         return asked(18, state_may_change(b, report, held), 0);
     }
     if !deratings_fit(b, report) {
@@ -388,10 +402,10 @@ fn slot_written(b: &[u8], report: &[u8], held: u8, changes: bool) -> u8
     ensures { λ r. ⌜ r ≡ slotWritten (now (b .entry)) (now (report .entry)) ⌝ }
 {
     let h = report::head_of(report);
-    if (h.operation == 1) & !(h.record_type == 6) {
+    if (h.operation == CREATE) & !(h.record_type == EVENT) {
         return lowest_free(b, report, held, changes);
     }
-    records::choose_code(h.operation == 2, held, 8)
+    records::choose_code(h.operation == CHANGE, held, 8)
 }
 
 // Some record leaves.
@@ -411,7 +425,7 @@ fn one_stop_one_levelled(x: Record, y: Record) -> bool
 {
     let x_levelled = records::is_levelled(x.record_type);
     let y_levelled = records::is_levelled(y.record_type);
-    (x_levelled & (y.record_type == 1)) | ((x.record_type == 1) & y_levelled)
+    (x_levelled & (y.record_type == STOP)) | ((x.record_type == STOP) & y_levelled)
 }
 
 // Warning 1, of slot i.
@@ -458,7 +472,7 @@ fn minute_warnings(after: &[u8], report: &[u8]) -> u8
     ensures { λ r. ⌜ (r ≡ minuteWarnings (now (after .entry)) (now (report .entry))) × (r ≤ 6) ⌝ }
 {
     let h = report::head_of(report);
-    if h.record_type == 4 {
+    if h.record_type == FORCED_WORK {
         let counted = used_slots(after);
         let swept = Swept {
             counted,
@@ -478,11 +492,11 @@ pub fn warnings_on(after: &[u8], report: &[u8], left: bool) -> u8
     ensures { λ r. ⌜ r ≡ warningsOn (now (after .entry)) (now (report .entry)) left ⌝ }
 {
     let h = report::head_of(report);
-    if (h.record_type == 6) | (h.operation == 3) {
+    if (h.record_type == EVENT) | (h.operation == WITHDRAW) {
         return 0;
     }
     let overlap = worth_of(1, warns_overlap(after, report));
-    let left_by_stop = worth_of(8, (h.record_type == 1) & left);
+    let left_by_stop = worth_of(8, (h.record_type == STOP) & left);
     overlap + minute_warnings(after, report) + left_by_stop
 }
 

@@ -1,6 +1,9 @@
 // Rule 20 in every minute of a reported record, by one turn for each change of a level.
 use quantities::Kilowatt;
 use quantities::Minute;
+use records::M1;
+use records::W1;
+use records::Z1;
 use rules::Level;
 use rules::Levels;
 use rules::PowerRange;
@@ -287,8 +290,8 @@ fn fits_z1(range: PowerRange, l: Levels) -> bool
 fn levels_fit(kind: u8, range: PowerRange, l: Levels) -> bool
     ensures { λ r. ⌜ r ≡ levelsFit kind range l ⌝ }
 {
-    let others = !((kind == 1) | (kind == 2)) | fits_w1_m1(range, l);
-    !l.forced.there | records::choose(kind == 3, fits_z1(range, l), others)
+    let others = !((kind == W1) | (kind == M1)) | fits_w1_m1(range, l);
+    !l.forced.there | records::choose(kind == Z1, fits_z1(range, l), others)
 }
 
 fn above_max(kind: u8, range: PowerRange, l: Levels) -> bool
@@ -297,7 +300,7 @@ fn above_max(kind: u8, range: PowerRange, l: Levels) -> bool
     let level = quantities::wide(l.forced.power);
     let max = quantities::wide(range.max);
     let high = records::choose(
-        kind == 3,
+        kind == Z1,
         max < level + quantities::wide(range.min),
         max < level,
     );
@@ -309,7 +312,7 @@ fn below_min(kind: u8, range: PowerRange, l: Levels) -> bool
 {
     l.forced.there
         & !l.negative.there
-        & ((kind == 1) | (kind == 2))
+        & ((kind == W1) | (kind == M1))
         & (l.forced.power.0 < range.min.0)
 }
 

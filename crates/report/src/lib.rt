@@ -6,7 +6,7 @@ use quantities::SignedKilowatt;
 ghost use mathlib.Core.Path.{_≡_};
 ghost use Prim.Native.Nat.{_+_, _≤_};
 ghost use lib.ListN.{length};
-ghost use Rattle.fields.specs.Fields.{u16At, u32At};
+ghost use Rattle.fields.specs.Fields.{u8At, u16At, u32At};
 ghost use Rattle.fields.specs.Lists.{series};
 ghost use Rattle.report.specs.Report.{headOf, partAt, partsOf, sized, partMarked, partsMarked, marked, whole};
 ghost use Rattle.report.specs.Cover.{fits, rest, covers, partsCover};
@@ -50,12 +50,36 @@ fn u32_in(s: &[u8], at: usize) -> u32
     fields::u32_of(s[at], s[at + 1], s[at + 2], s[at + 3])
 }
 
+fn identifier_in(report: &[u8]) -> [u8; 16]
+    requires { ⌜ 48 ≤ length (now report) ⌝ }
+    ensures { λ r. ⌜ r ≡ series (u8At (now (report .entry))) 16 16 ⌝ }
+{
+    [
+        report[16],
+        report[17],
+        report[18],
+        report[19],
+        report[20],
+        report[21],
+        report[22],
+        report[23],
+        report[24],
+        report[25],
+        report[26],
+        report[27],
+        report[28],
+        report[29],
+        report[30],
+        report[31],
+    ]
+}
+
 // head_of where the head is known to be there: loads without a test each.
 fn read_head(report: &[u8]) -> Head
     requires { ⌜ 48 ≤ length (now report) ⌝ }
     ensures { λ r. ⌜ r ≡ headOf (now (report .entry)) ⌝ }
 {
-    let identifier = fields::bytes16_at(report, 16);
+    let identifier = identifier_in(report);
     let stamp = Minute(u32_in(report, 32));
     let start = Minute(u32_in(report, 36));
     let end = Minute(u32_in(report, 40));
