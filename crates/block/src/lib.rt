@@ -130,24 +130,7 @@ fn identifier_in(z: &[u8]) -> [u8; 16]
     requires { ⌜ 36 ≤ length (now z) ⌝ }
     ensures { λ r. ⌜ r ≡ series (u8At (now (z .entry))) 8 16 ⌝ }
 {
-    [
-        z[8],
-        z[9],
-        z[10],
-        z[11],
-        z[12],
-        z[13],
-        z[14],
-        z[15],
-        z[16],
-        z[17],
-        z[18],
-        z[19],
-        z[20],
-        z[21],
-        z[22],
-        z[23],
-    ]
+    fields::first16(&z[8..24])
 }
 
 fn read_record(z: &[u8]) -> Record

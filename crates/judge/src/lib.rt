@@ -373,7 +373,7 @@ fn limit_number(b: &[u8], report: &[u8], held: u8) -> u8
     if !state_may_change(b, report, held) {
         return 18;
     }
-    if h.operation != 1 {
+    if h.operation != CREATE {
         return 0;
     }
     let changes = changes_state(b, report, held);

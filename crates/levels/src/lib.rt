@@ -1,7 +1,10 @@
 // Rule 20 in every minute of a reported record, by one turn for each change of a level.
 use quantities::Kilowatt;
 use quantities::Minute;
+use records::FORCED_WORK;
 use records::M1;
+use records::NEGATIVE_DERATING;
+use records::POSITIVE_DERATING;
 use records::W1;
 use records::Z1;
 use rules::Level;
@@ -252,8 +255,8 @@ fn levels_at(b: &[u8], report: &[u8], swept: Swept, direction: u8, m: Minute, f:
     requires { ⌜ Stays (levelAmong (sweptWorks (now b) (now report) (swept .counted) (swept .«with_report»)) 4 direction) (m .0) f ⌝ }
     ensures { λ r. ⌜ Stood (levelsAt (sweptWorks (now (b .entry)) (now (report .entry)) (swept .counted) (swept .«with_report»)) direction) (m .0) r ⌝ }
 {
-    let p = level_at(b, report, swept, 2, direction, m);
-    let n = level_at(b, report, swept, 3, direction, m);
+    let p = level_at(b, report, swept, POSITIVE_DERATING, direction, m);
+    let n = level_at(b, report, swept, NEGATIVE_DERATING, direction, m);
     let forced = f.level;
     let positive = p.level;
     let negative = n.level;
@@ -342,7 +345,7 @@ pub fn sweep(b: &[u8], report: &[u8], swept: Swept, kind: u8, range: PowerRange)
         below: false,
     };
     while m.0 < end.0 {
-        let forced = level_at(b, report, swept, 4, direction, m);
+        let forced = level_at(b, report, swept, FORCED_WORK, direction, m);
         if forced.level.there {
             let spell = levels_at(b, report, swept, direction, m, forced);
             let levels = spell.levels;
