@@ -1,10 +1,19 @@
 // Roster A and the reports that paper 01 sends, as bytes.
+use records::CREATE;
+use records::EVENT;
+use records::EXECUTED;
+use records::FORCED_WORK;
+use records::GENERATION;
+use records::P;
+use records::PLANNED;
+use records::POSITIVE_DERATING;
+use records::STOP;
+use records::W1;
+use records::Z1;
 ghost use Prim.Native.Nat.{_≤_};
 
 // "D is 13,760,640, which is 2026-03-01 00:00."
 pub const D: u32 = 13760640;
-
-const EXECUTED: u8 = 2;
 
 // A creation with direction 1 and ordinal 1. Levelled types have one part, or two where the power changes at a step.
 pub struct Sent {
@@ -27,8 +36,8 @@ pub fn derating(place: u8) -> Sent {
     Sent {
         unit: 1,
         owner: 7,
-        record_type: 2,
-        start_mark: 1,
+        record_type: POSITIVE_DERATING,
+        start_mark: PLANNED,
         qualification: 0,
         place,
         stamp: D + 10,
@@ -50,7 +59,7 @@ pub fn derating_over(place: u8, stamp: u32, start: u32, end: u32) -> Sent {
 
 pub fn forced(place: u8, power: u32) -> Sent {
     let mut s = derating(place);
-    s.record_type = 4;
+    s.record_type = FORCED_WORK;
     s.power = power;
     s
 }
@@ -58,7 +67,7 @@ pub fn forced(place: u8, power: u32) -> Sent {
 // "stops and "one from" end D+180"
 pub fn begun_stop(place: u8, qualification: u8, start: u32) -> Sent {
     let mut s = derating_over(place, D + 10, start, D + 180);
-    s.record_type = 1;
+    s.record_type = STOP;
     s.start_mark = EXECUTED;
     s.qualification = qualification;
     s
@@ -67,7 +76,7 @@ pub fn begun_stop(place: u8, qualification: u8, start: u32) -> Sent {
 // "events start at D+10, end = start, mark 2, identifier zero"
 pub fn event(code: u8) -> Sent {
     let mut s = begun_stop(0, code, D + 10);
-    s.record_type = 6;
+    s.record_type = EVENT;
     s.end = D + 10;
     s
 }
@@ -75,7 +84,7 @@ pub fn event(code: u8) -> Sent {
 fn part_count(s: Sent) -> u16
     ensures { λ r. ⌜ r ≤ 2 ⌝ }
 {
-    if (s.record_type < 2) | (4 < s.record_type) {
+    if !records::is_levelled(s.record_type) {
         0
     } else if s.step_at == 0 {
         1
@@ -121,10 +130,10 @@ fn put_address(report: &mut [u8], s: Sent) {
 
 fn put_codes(report: &mut [u8], s: Sent) {
     fields::put_u8(report, 6, s.record_type);
-    fields::put_u8(report, 7, 1);
-    fields::put_u8(report, 8, 1);
+    fields::put_u8(report, 7, CREATE);
+    fields::put_u8(report, 8, GENERATION);
     fields::put_u8(report, 9, s.start_mark);
-    fields::put_u8(report, 10, 1);
+    fields::put_u8(report, 10, PLANNED);
     fields::put_u8(report, 11, s.qualification);
 }
 
@@ -159,6 +168,6 @@ fn put_entry(roster: &mut [u8], at: usize, owner: u16, kind: u8, state: u8, max:
 
 // "unit 1, owner 7, W1, state 5, since D, 200,000 and 80,000; unit 2, owner 9, Z1, since D, 50,000 and 0"
 pub fn put_roster_a(roster: &mut [u8]) {
-    put_entry(roster, 0, 7, 1, 5, 200000, 80000);
-    put_entry(roster, 28, 9, 3, 0, 50000, 0);
+    put_entry(roster, 0, 7, W1, P, 200000, 80000);
+    put_entry(roster, 28, 9, Z1, 0, 50000, 0);
 }
