@@ -13,7 +13,7 @@ use borrow.Author.Tests.{lt-ltb, le-ltb, eq-eqb, le-leb, eqb-true, leb-true}
 use Rattle.fields.specs.Fields.{u8At, bytesOf}
 use Rattle.fields.specs.Lists.{pick, joined, part, put}
 use Rattle.fields.proofs.Bools.{pick-elim, lt-or-le, and-left, and-right}
-use Rattle.fields.proofs.Stretches.{part-length, part-after, part-lent, lent-back, put-length}
+use Rattle.fields.proofs.Slices.{part-length, part-after, part-lent, lent-back, put-length}
 use Rattle.fields.proofs.Joined.{joined-same, joined-length, part-joined, put-joined}
 use Rattle.fields.proofs.Numbers.{bytes-length}
 use Rattle.fields.proofs.Tests.{series-length}
@@ -171,7 +171,7 @@ module _ (b s : List ℕ) (plan : Plan) where
           lent-back (slotMade s (eqb i (plan .written)) (getD (plan .keep) i false)) c (headSize + slotSize * i) slotSize vs (omega arith) l f
           ∙ progress-more c i e h
 
--- the length of a stretch that is lent
+-- the length of a part that is lent
 pub lent-length : (s : List ℕ) (at n : ℕ) → at + n ≤ length s → length (take (at + n - at) (drop at s)) ≡ n
 lent-length s at n h = ap length (part-lent s at n) ∙ part-length s at n h
 

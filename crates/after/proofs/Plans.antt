@@ -17,7 +17,7 @@ use Rattle.rules.specs.declared.Row.{Row}
 use Rattle.rules.specs.Block.{headSize, unitHead, slotCount, blockSize}
 use Rattle.rules.specs.Codes.{W1, create, change, withdraw}
 use Rattle.rules.specs.Records.{begun, holdsState}
-use Rattle.rules.specs.Questions.{recordOf, isEvent, isWithdrawal, isOperation, stampOf, heldRecord, begins, changesState, hasArrow, stays, question18}
+use Rattle.rules.specs.Questions.{recordOf, isEvent, isWithdrawal, isOperation, stampOf, heldRecord, begins, changesState, hasTransition, stays, question18}
 use Rattle.rules.specs.After.{rowAfter, headAfter, slotWritten, slotAfter, blockAfter}
 use Rattle.rules.specs.Judge.{refusalNumber}
 use Rattle.rules.proofs.Afterwards.{event-creates}
@@ -47,7 +47,7 @@ module _ (b s : List ℕ) (p : Passed b s) (changes : changesState b s ≡ true)
   row-moves : rowPlanned b s ≡ rowAfter b s
   unfolding question18 pick
   row-moves =
-      let asked : hasArrow (unitHead b .row) (headOf s) ≡ true = rw (no-withdrawal (isWithdrawal s) refl, changes) at (p .q18) in
+      let asked : hasTransition (unitHead b .row) (headOf s) ≡ true = rw (no-withdrawal (isWithdrawal s) refl, changes) at (p .q18) in
       rw asked
 
 module _ (b s : List ℕ) (plan : Plan) where

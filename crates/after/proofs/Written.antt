@@ -10,7 +10,7 @@ use lib.Seq.{sets-eq, take-at, drop-at, drop-drop}
 use borrow.Author.Tests.{not-true, not-false}
 use Rattle.fields.specs.Fields.{u8At, bytesOf}
 use Rattle.fields.specs.Lists.{pick, series, put}
-use Rattle.fields.proofs.Stretches.{put-append, series-snoc}
+use Rattle.fields.proofs.Slices.{put-append, series-snoc}
 use Rattle.fields.proofs.Numbers.{bytes-length}
 use Rattle.fields.proofs.Tests.{series-length}
 use Rattle.quantities.specs.declared.Kilowatt.{Kilowatt}

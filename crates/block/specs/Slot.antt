@@ -9,7 +9,7 @@ use Rattle.quantities.specs.declared.Minute.{Minute}
 use Rattle.quantities.specs.Quantities.{highestPower}
 use Rattle.rules.specs.declared.Record.{Record}
 use Rattle.rules.specs.Codes.{between, stop, offGrid}
-use Rattle.rules.specs.Records.{fieldsInRange, carried, begun}
+use Rattle.rules.specs.Records.{fieldsInRange, kindAllows, begun}
 use Rattle.rules.specs.Block.{unitMark, zerosAt, unitHead}
 use Rattle.rules.specs.Whole.{headInRange}
 
@@ -25,7 +25,7 @@ holdsAlone kind last r =
     every
     (between stop offGrid (r .«record_type»)
     ∷ fieldsInRange r []
-    ∷ carried kind r
+    ∷ kindAllows kind r
     ∷ (not (eqb (r .«record_type») offGrid) || begun r)
     ∷ ltb (r .period .start .0) (r .period .end .0)
     ∷ leb (r .stamp .0) (last .0)

@@ -11,8 +11,8 @@ use records::STOP;
 use records::choose;
 use records::fields_in_range;
 use records::has_begun;
-use records::is_carried;
 use records::is_levelled;
+use records::kind_allows;
 use records::within;
 use rules::PowerRange;
 use rules::Powers;
@@ -32,7 +32,7 @@ ghost use Rattle.rules.specs.Whole.{recordsApart, slotWhole, slotsApart, blockW
 ghost use Rattle.block.specs.Slot.{pairsRise, holdsAlone, headWhole};
 
 // The n bytes from `at` on; what would lie past the end is left out.
-pub fn stretch<'a>(s: &'a [u8], at: usize, n: usize) -> &'a [u8]
+pub fn slice_at<'a>(s: &'a [u8], at: usize, n: usize) -> &'a [u8]
     ensures { λ r. ⌜ now r ≡ part (now (s .entry)) at n ⌝ }
 {
     if s.len() <= at {
@@ -167,7 +167,7 @@ pub fn unit_head(b: &[u8]) -> UnitHead
 pub fn slot_at<'a>(b: &'a [u8], i: u8) -> &'a [u8]
     ensures { λ r. ⌜ now r ≡ slotAt (now (b .entry)) i ⌝ }
 {
-    stretch(b, 64 + 888 * (i as usize), 888)
+    slice_at(b, 64 + 888 * (i as usize), 888)
 }
 
 pub fn is_used(z: &[u8]) -> bool
@@ -205,7 +205,7 @@ fn all_zero(z: &[u8]) -> bool
 pub fn zeros_at(s: &[u8], at: usize, n: usize) -> bool
     ensures { λ r. ⌜ r ≡ zerosAt (now (s .entry)) at n ⌝ }
 {
-    all_zero(stretch(s, at, n))
+    all_zero(slice_at(s, at, n))
 }
 
 // The part ends rise from the period's start to its end, and every power is in range.
@@ -231,7 +231,7 @@ fn holds_alone(kind: u8, last: Minute, r: Record) -> bool
 {
     within(STOP, OFF_GRID, r.record_type)
         & fields_in_range(r)
-        & is_carried(kind, r)
+        & kind_allows(kind, r)
         & (!(r.record_type == OFF_GRID) | has_begun(r))
         & (r.period.start.0 < r.period.end.0)
         & (r.stamp.0 <= last.0)
@@ -349,7 +349,7 @@ fn blocks_whole(register: &[u8], n: u16) -> bool
     ensures { λ r. ⌜ r ≡ all (λ u. blockWhole u (piece 7168 (now (register .entry)) u)) (series (λ u. u) 1 n) ⌝ }
 {
     for i in 0..n {
-        let b = stretch(register, 7168 * (i as usize), 7168);
+        let b = slice_at(register, 7168 * (i as usize), 7168);
         if !block_whole(i + 1, b) {
             return false;
         }
@@ -387,7 +387,7 @@ fn entries_good(roster: &[u8], n: u16) -> bool
     ensures { λ r. ⌜ r ≡ all (λ u. entryGood (piece 28 (now (roster .entry)) u)) (series (λ u. u) 1 n) ⌝ }
 {
     for i in 0..n {
-        if !entry_good(stretch(roster, 28 * (i as usize), 28)) {
+        if !entry_good(slice_at(roster, 28 * (i as usize), 28)) {
             return false;
         }
     }

@@ -26,7 +26,7 @@ pub fn without_star(register: &mut [u8], report: &mut [u8])
 fn states_and_stamps(register: &mut [u8], report: &mut [u8])
     requires { ⌜ length (now report) ≡ 1850 ⌝ }
 {
-    event_without_arrow(register, report);
+    event_without_transition(register, report);
     repeated_stop(register, report);
     early_stamp(register, report);
     low_level(register, report);
@@ -66,7 +66,7 @@ fn overlapping_deratings(register: &mut [u8], report: &mut [u8])
     );
 }
 
-fn event_without_arrow(register: &mut [u8], report: &mut [u8])
+fn event_without_transition(register: &mut [u8], report: &mut [u8])
     requires { ⌜ length (now report) ≡ 1850 ⌝ }
 {
     first(

@@ -10,13 +10,13 @@ use lib.Seq.{length-take-le}
 use borrow.Author.Tests.{eq-eqb, ne-eqb, not-true, not-false}
 use Rattle.fields.specs.Lists.{pick, and-each, every, part}
 use Rattle.fields.proofs.Bools.{every-true, range-true}
-use Rattle.fields.proofs.Stretches.{part-lent, lent-back}
+use Rattle.fields.proofs.Slices.{part-lent, lent-back}
 use Rattle.report.specs.declared.Head.{Head}
 use Rattle.report.specs.Report.{headOf, partCount, whole}
 use Rattle.rules.specs.declared.Answer.{Answer}
 use Rattle.rules.specs.After.{blockAfter, someSlot, warnings}
 use Rattle.rules.specs.Questions.{leaves}
-use Rattle.rules.specs.Judge.{Step, refusal, refusalNumber, judge}
+use Rattle.rules.specs.Judge.{Verdict, refusal, refusalNumber, judge}
 use Rattle.rules.specs.declared.UnitHead.{UnitHead}
 use Rattle.rules.specs.Block.{blockSize, unitHead}
 use Rattle.rules.specs.Whole.{registerWhole}
@@ -29,7 +29,7 @@ use Rattle.after.specs.Plan.{planApplied}
 use Rattle.after.proofs.Plans.{plan-after}
 
 -- what is answered and what is left is a step
-abbrev pub Is : Step → Answer → List ℕ → Type 0
+abbrev pub Is : Verdict → Answer → List ℕ → Type 0
 Is step a left = (a ≡ step .answer) × (left ≡ step .after)
 
 module _ (b s : List ℕ) {n : ℕ} (asked : n ≡ refusalNumber b s) where

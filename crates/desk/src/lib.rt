@@ -50,7 +50,7 @@ fn is_addressed(register: &[u8], report: &[u8]) -> bool
     let h = report::head_of(report);
     let unit = h.unit as usize;
     if (1 <= unit) & (unit <= register.len() / 7168) {
-        let b = block::stretch(register, 7168 * (unit - 1), 7168);
+        let b = block::slice_at(register, 7168 * (unit - 1), 7168);
         block::unit_head(b).owner == h.owner
     } else {
         false

@@ -19,13 +19,13 @@ use Rattle.rules.specs.declared.PowerRange.{PowerRange}
 use Rattle.rules.specs.declared.Record.{Record}
 use Rattle.rules.specs.declared.UnitHead.{UnitHead}
 use Rattle.rules.specs.Codes.{isLevelled}
-use Rattle.rules.specs.Minutes.{Work, worksAmong, reportedWorks, question17}
-use Rattle.levels.specs.declared.Findings.{Findings}
-use Rattle.levels.specs.Works.{reportWork, sweptWorks}
-use Rattle.levels.specs.Findings.{findings}
+use Rattle.rules.specs.Minutes.{FullRecord, recordsAmong, reportedRecords, question17}
+use Rattle.levels.specs.declared.SweepResult.{SweepResult}
+use Rattle.levels.specs.Counted.{reportRecord, sweptRecords}
+use Rattle.levels.specs.Result.{sweepResult}
 use Rattle.rules.specs.Records.{sameIdentifier, clashes, closes}
 use Rattle.rules.specs.Block.{slotCount, slotAt, used, recordIn, unitHead}
-use Rattle.rules.specs.Questions.{recordOf, recordAt, stampOf, live, holder, other, clashClosed, beginsBy, begins, changesState, hasArrow, question18, rangeOf, deratingFits, question16, mustLeave, leaves, stays, freeSlot}
+use Rattle.rules.specs.Questions.{recordOf, recordAt, stampOf, live, holder, other, clashClosed, beginsBy, begins, changesState, hasTransition, question18, rangeOf, deratingFits, question16, mustLeave, leaves, stays, freeSlot}
 
 pub live-join : (b : List ℕ) (stamp i : ℕ) {z : List ℕ} {u : Bool} {r : Record} → z ≡ slotAt b i → u ≡ used z → r ≡ recordIn z → (u && ltb stamp (r .period .end .0)) ≡ live b stamp i
 unfolding live
@@ -74,7 +74,7 @@ pub changes-join : (b s : List ℕ) (held : ℕ) {h : Head} {u : UnitHead} {x : 
 unfolding changesState begins
 changes-join b s held e f x g q = rw (g, x, e, f, q)
 
-pub state-join : (b s : List ℕ) {h : Head} {u : UnitHead} {t a : Bool} → u ≡ unitHead b → t ≡ changesState b s → h ≡ headOf s → a ≡ hasArrow (u .row) h → (not t || a) ≡ question18 b s
+pub state-join : (b s : List ℕ) {h : Head} {u : UnitHead} {t a : Bool} → u ≡ unitHead b → t ≡ changesState b s → h ≡ headOf s → a ≡ hasTransition (u .row) h → (not t || a) ≡ question18 b s
 unfolding question18
 state-join b s f p e q = rw (p, q, e, f)
 
@@ -90,25 +90,25 @@ unfolding question16
 deratings-join b s e q p = p ∙ rw (q, e)
 
 -- the slots that are marked are those that pass the test
-pub works-same : (b : List ℕ) (p q : ℕ → Bool) (i n : ℕ) → ((j : ℕ) → i ≤ j → j < i + n → p j ≡ q j) → worksAmong b p i n ≡ worksAmong b q i n
-unfolding worksAmong
-works-same b p q i zero h = refl
-works-same b p q i (suc n) h =
-    rw (h i (omega arith) (omega arith), works-same b p q (i + 1) n (λ j x y. h j (omega arith) (omega arith)))
+pub records-same : (b : List ℕ) (p q : ℕ → Bool) (i n : ℕ) → ((j : ℕ) → i ≤ j → j < i + n → p j ≡ q j) → recordsAmong b p i n ≡ recordsAmong b q i n
+unfolding recordsAmong
+records-same b p q i zero h = refl
+records-same b p q i (suc n) h =
+    rw (h i (omega arith) (omega arith), records-same b p q (i + 1) n (λ j x y. h j (omega arith) (omega arith)))
 
-reported-swept : (b s : List ℕ) → sweptWorks b s (series (other b s) 0 8) true ≡ reportedWorks b s
-unfolding sweptWorks reportedWorks pick
+reported-swept : (b s : List ℕ) → sweptRecords b s (series (other b s) 0 8) true ≡ reportedRecords b s
+unfolding sweptRecords reportedRecords pick
 reported-swept b s =
-    ap (λ (ws : List Work). reportWork s ∷ ws)
-    (works-same b (λ i. getD (series (other b s) 0 8) i false) (other b s) 0 8
+    ap (λ (ws : List FullRecord). reportRecord s ∷ ws)
+    (records-same b (λ i. getD (series (other b s) 0 8) i false) (other b s) 0 8
     (λ j x y. series-at (other b s) 0 8 j false (omega arith) ∙ ap (other b s) (zero-add j)))
 
 module _ (b s : List ℕ) {h : Head} {t : Bool} (e : h ≡ headOf s) (asked-type : t ≡ isLevelled (h .«record_type»)) where
-  pub minutes-swept : {counted : List Bool} {u : UnitHead} {r : PowerRange} {g : Findings} → t ≡ true → counted ≡ series (other b s) 0 8 → u ≡ unitHead b → r ≡ rangeOf (unitHead b .powers) (h .direction) → g ≡ findings (u .kind) r (sweptWorks b s counted true) (headOf s .direction) (headOf s .period .start .0) (headOf s .period .end .0) → g .fits ≡ question17 b s
-  unfolding question17 findings
+  pub minutes-swept : {counted : List Bool} {u : UnitHead} {r : PowerRange} {g : SweepResult} → t ≡ true → counted ≡ series (other b s) 0 8 → u ≡ unitHead b → r ≡ rangeOf (unitHead b .powers) (h .direction) → g ≡ sweepResult (u .kind) r (sweptRecords b s counted true) (headOf s .direction) (headOf s .period .start .0) (headOf s .period .end .0) → g .fits ≡ question17 b s
+  unfolding question17 sweepResult
   minutes-swept {counted} {u} {r} {g} y c f q p =
       let levelled : isLevelled (headOf s .«record_type») ≡ true = ap (λ (h : Head). isLevelled (h .«record_type»)) (sym e) ∙ sym asked-type ∙ y in
-      ap (λ (g : Findings). g .fits) p ∙ rw (levelled, c, reported-swept b s, f, q, e)
+      ap (λ (g : SweepResult). g .fits) p ∙ rw (levelled, c, reported-swept b s, f, q, e)
 
   pub minutes-skipped : t ≡ false → true ≡ question17 b s
   unfolding question17

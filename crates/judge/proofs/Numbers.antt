@@ -13,8 +13,8 @@ use Rattle.report.specs.Report.{headOf, partsOf}
 use Rattle.rules.specs.declared.Record.{Record}
 use Rattle.rules.specs.declared.UnitHead.{UnitHead}
 use Rattle.rules.specs.Block.{unitHead}
-use Rattle.rules.specs.Records.{carried, powersInRange}
-use Rattle.rules.specs.Questions.{recordBy, recordAt, holder, timesHonest, ofHolder, mayMove, freeSlot, question4, question5, question6, question7, question8, question9, question10, question11, question12, question13, question14, question15, question16, question18, question19}
+use Rattle.rules.specs.Records.{kindAllows, powersInRange}
+use Rattle.rules.specs.Questions.{recordBy, recordAt, holder, timesConsistent, ofHolder, mayMove, freeSlot, question4, question5, question6, question7, question8, question9, question10, question11, question12, question13, question14, question15, question16, question18, question19}
 use Rattle.rules.specs.Minutes.{question17}
 use Rattle.rules.specs.Judge.{withdrawalOr, eitherOr, formNumber, recordNumber, limitNumber, refusalNumber}
 use Rattle.rules.specs.After.{slotWritten, someSlot}
@@ -59,7 +59,7 @@ module _ (b s : List ℕ) {x4 : Bool} (a4 : x4 ≡ question4 s) where
   pub no-4 : not x4 ≡ true → 4 ≡ formNumber b s 0
   no-4 t = stops _ 4 from-4 a4 t
 
-  module _ (y4 : not x4 ≡ false) {h : Head} (e : h ≡ headOf s) {u : UnitHead} {r : Record} {x5 : Bool} (f : u ≡ unitHead b) (g : r ≡ recordBy h) (a5 : x5 ≡ carried (u .kind) r) where
+  module _ (y4 : not x4 ≡ false) {h : Head} (e : h ≡ headOf s) {u : UnitHead} {r : Record} {x5 : Bool} (f : u ≡ unitHead b) (g : r ≡ recordBy h) (a5 : x5 ≡ kindAllows (u .kind) r) where
     five : x5 ≡ question5 b s
     five = a5 ∙ rw (f, g, e)
 
@@ -69,7 +69,7 @@ module _ (b s : List ℕ) {x4 : Bool} (a4 : x4 ≡ question4 s) where
     pub no-5 : not x5 ≡ true → 5 ≡ formNumber b s 0
     no-5 t = stops _ 5 from-5 five t
 
-    module _ (y5 : not x5 ≡ false) {x6 : Bool} (a6 : x6 ≡ timesHonest h) where
+    module _ (y5 : not x5 ≡ false) {x6 : Bool} (a6 : x6 ≡ timesConsistent h) where
       six : (eqb (h .operation) 3 || x6) ≡ withdrawalOr s (question6 s)
       six = rw (a6, e)
 

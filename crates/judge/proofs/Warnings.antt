@@ -20,13 +20,13 @@ use Rattle.rules.specs.declared.UnitHead.{UnitHead}
 use Rattle.rules.specs.Codes.{meet}
 use Rattle.rules.specs.Block.{slotAt, used, recordIn, unitHead}
 use Rattle.rules.specs.Questions.{recordOf, rangeOf, leaves}
-use Rattle.rules.specs.Minutes.{Work, worksAmong, blockWorks, aboveMax, belowMin, levelsSome}
+use Rattle.rules.specs.Minutes.{FullRecord, recordsAmong, blockRecords, aboveMax, belowMin, levelsSome}
 use Rattle.rules.specs.After.{oneStopOneLevelled, blockAfter, someSlot, warnsOverlap, warnsMinute, warnsLeft, worth, warnings}
-use Rattle.levels.specs.declared.Findings.{Findings}
-use Rattle.levels.specs.Works.{sweptWorks}
-use Rattle.levels.specs.Findings.{findings}
+use Rattle.levels.specs.declared.SweepResult.{SweepResult}
+use Rattle.levels.specs.Counted.{sweptRecords}
+use Rattle.levels.specs.Result.{sweepResult}
 use Rattle.judge.specs.Warned.{overlapAt, minuteWarnings, warningsOn}
-use Rattle.judge.proofs.Joins.{works-same}
+use Rattle.judge.proofs.Joins.{records-same}
 
 pub overlap-join : (after : List ℕ) (r : Record) (i : ℕ) {z : List ℕ} {x : Record} {u o m p : Bool} → z ≡ slotAt after i → x ≡ recordIn z → u ≡ used z → o ≡ oneStopOneLevelled r x → m ≡ meet (r .direction) (x .direction) → p ≡ overlap (r .period) (x .period) → (u && o && m && p) ≡ overlapAt after r i
 overlap-join after r i e f a b c d = rw (a, b, c, d, f, e)
@@ -35,22 +35,22 @@ pub warns-join : (after s : List ℕ) {r : Record} {none : Bool} → r ≡ recor
 unfolding warnsOverlap someSlot
 warns-join after s e p = ap not p ∙ rw e
 
-block-swept : (b s : List ℕ) → sweptWorks b s (series (λ i. used (slotAt b i)) 0 8) false ≡ blockWorks b
-unfolding sweptWorks blockWorks pick
+block-swept : (b s : List ℕ) → sweptRecords b s (series (λ i. used (slotAt b i)) 0 8) false ≡ blockRecords b
+unfolding sweptRecords blockRecords pick
 block-swept b s =
-    works-same b (λ i. getD (series (λ i. used (slotAt b i)) 0 8) i false) (λ i. used (slotAt b i)) 0 8
+    records-same b (λ i. getD (series (λ i. used (slotAt b i)) 0 8) i false) (λ i. used (slotAt b i)) 0 8
     (λ j x y. series-at (λ i. used (slotAt b i)) 0 8 j false (omega arith) ∙ ap (λ (k : ℕ). used (slotAt b k)) (zero-add j))
 
 module _ (after s : List ℕ) {h : Head} (e : h ≡ headOf s) where
   type-same : h .«record_type» ≡ headOf s .«record_type»
   type-same = ap (λ (h : Head). h .«record_type») e
 
-  pub minutes-warn : {counted : List Bool} {u : UnitHead} {r : PowerRange} {g : Findings} {x y : ℕ} → h .«record_type» ≡ 4 → counted ≡ series (λ i. used (slotAt after i)) 0 8 → u ≡ unitHead after → r ≡ rangeOf (unitHead after .powers) (h .direction) → g ≡ findings (u .kind) r (sweptWorks after s counted false) (headOf s .direction) (headOf s .period .start .0) (headOf s .period .end .0) → x ≡ worth 2 (g .above) → y ≡ worth 4 (g .below) → x + y ≡ minuteWarnings after s
-  unfolding warnsMinute findings
+  pub minutes-warn : {counted : List Bool} {u : UnitHead} {r : PowerRange} {g : SweepResult} {x y : ℕ} → h .«record_type» ≡ 4 → counted ≡ series (λ i. used (slotAt after i)) 0 8 → u ≡ unitHead after → r ≡ rangeOf (unitHead after .powers) (h .direction) → g ≡ sweepResult (u .kind) r (sweptRecords after s counted false) (headOf s .direction) (headOf s .period .start .0) (headOf s .period .end .0) → x ≡ worth 2 (g .above) → y ≡ worth 4 (g .below) → x + y ≡ minuteWarnings after s
+  unfolding warnsMinute sweepResult
   minutes-warn {counted} {u} {r} {g} {x} {y} t c f q p a b =
       let forced = eq-eqb (headOf s .«record_type») 4 (sym type-same ∙ t) in
-      let above : g .above ≡ warnsMinute aboveMax after s = ap (λ (g : Findings). g .above) p ∙ rw (forced, c, block-swept after s, f, q, e) in
-      let below : g .below ≡ warnsMinute belowMin after s = ap (λ (g : Findings). g .below) p ∙ rw (forced, c, block-swept after s, f, q, e) in
+      let above : g .above ≡ warnsMinute aboveMax after s = ap (λ (g : SweepResult). g .above) p ∙ rw (forced, c, block-swept after s, f, q, e) in
+      let below : g .below ≡ warnsMinute belowMin after s = ap (λ (g : SweepResult). g .below) p ∙ rw (forced, c, block-swept after s, f, q, e) in
       rw (a, b, above, below)
 
   pub minutes-silent : (h .«record_type» ≡ 4 → ⊥) → 0 ≡ minuteWarnings after s

@@ -31,7 +31,7 @@ ghost use Rattle.judge.specs.Warned.{overlapAt, minuteWarnings, warnings
 ghost use Rattle.rules.specs.Judge.{formNumber, recordNumber, limitNumber, refusalNumber};
 ghost use Rattle.rules.specs.Minutes.{question17};
 ghost use Rattle.rules.specs.Block.{unitHead};
-ghost use Rattle.rules.specs.Questions.{rangeOf, recordOf, recordAt, live, holder, other, ofHolder, mayMove, clashClosed, question15, deratingFits, question16, beginsBy, changesState, hasArrow, question18, mustLeave, leaves, stays, freeSlot};
+ghost use Rattle.rules.specs.Questions.{rangeOf, recordOf, recordAt, live, holder, other, ofHolder, mayMove, clashClosed, question15, deratingFits, question16, beginsBy, changesState, hasTransition, question18, mustLeave, leaves, stays, freeSlot};
 
 // What an accepted report does to the slots: which keep their record, which one is written (8: none), whether the
 // state changes, and whether some record leaves.
@@ -125,7 +125,7 @@ fn clash_is_closed(b: &[u8], report: &[u8], held: u8, i: u8) -> bool
 {
     let r = records::record_of(report);
     let x = record_at(b, i);
-    !(is_other(b, report, held, i) & records::records_clash(r, x)) | records::is_closed_by(r, x)
+    !(is_other(b, report, held, i) & records::records_clash(r, x)) | records::record_closes(r, x)
 }
 
 // Question 15.
@@ -193,8 +193,8 @@ fn changes_state(b: &[u8], report: &[u8], held: u8) -> bool
     (kind == W1) & ((h.record_type == EVENT) | begins(h, record_at(b, held)))
 }
 
-fn has_arrow(row: Row, h: Head) -> bool
-    ensures { λ r. ⌜ r ≡ hasArrow row h ⌝ }
+fn has_transition(row: Row, h: Head) -> bool
+    ensures { λ r. ⌜ r ≡ hasTransition row h ⌝ }
 {
     row::stepped(row, h).moved
 }
@@ -206,14 +206,14 @@ fn state_may_change(b: &[u8], report: &[u8], held: u8) -> bool
 {
     let head = block::unit_head(b);
     let row = head.row;
-    !changes_state(b, report, held) | has_arrow(row, report::head_of(report))
+    !changes_state(b, report, held) | has_transition(row, report::head_of(report))
 }
 
 fn must_leave(h: Head, changes: bool, x: Record) -> bool
     ensures { λ r. ⌜ r ≡ mustLeave h changes x ⌝ }
 {
     let r = records::record_by(h);
-    (!(h.operation == WITHDRAW) & records::records_clash(r, x) & records::is_closed_by(r, x))
+    (!(h.operation == WITHDRAW) & records::records_clash(r, x) & records::record_closes(r, x))
         | (changes & records::holds_state(x))
 }
 
@@ -294,28 +294,28 @@ fn asked(number: u8, yes: bool, next: u8) -> u8
 fn form_number(b: &[u8], report: &[u8]) -> u8
     ensures { λ r. ⌜ r ≡ formNumber (now (b .entry)) (now (report .entry)) 0 ⌝ }
 {
-    if !form::fields_pass(report) {
+    if !validation::fields_pass(report) {
         return 4;
     }
     let h = report::head_of(report);
     let is_withdrawal = h.operation == WITHDRAW;
     let kind = block::unit_head(b).kind;
-    if !records::is_carried(kind, records::record_by(h)) {
+    if !records::kind_allows(kind, records::record_by(h)) {
         return 5;
     }
-    if !(is_withdrawal | form::times_are_honest(h)) {
+    if !(is_withdrawal | validation::times_are_consistent(h)) {
         return 6;
     }
-    if !(is_withdrawal | form::ends_are_on_quarters(report)) {
+    if !(is_withdrawal | validation::ends_are_on_quarters(report)) {
         return 7;
     }
-    if !form::parts_pass(report) {
+    if !validation::parts_pass(report) {
         return 8;
     }
     if (h.record_type == EVENT) | is_withdrawal {
         return 0;
     }
-    asked(9, form::powers_pass(report), 0)
+    asked(9, validation::powers_pass(report), 0)
 }
 
 // Questions 10 to 15.

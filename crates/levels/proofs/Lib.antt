@@ -1,4 +1,4 @@
-pub mod Spells
+pub mod Spans
 pub mod Parts
-pub mod Works
+pub mod Counted
 pub mod Turns

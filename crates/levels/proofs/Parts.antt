@@ -10,12 +10,12 @@ use Rattle.fields.specs.Lists.{pick, series}
 use Rattle.fields.proofs.Tests.{series-more}
 use Rattle.quantities.specs.declared.Minute.{Minute}
 use Rattle.rules.specs.declared.Level.{Level}
-use Rattle.rules.specs.Minutes.{noLevel, levelIn, Work, levelOf}
+use Rattle.rules.specs.Minutes.{noLevel, levelIn, FullRecord, levelOf}
 use Rattle.levels.specs.declared.Point.{Point}
 use Rattle.rules.specs.declared.Record.{Record}
 use Rattle.levels.specs.Points.{levelAmongPoints, levelOfPoints}
 use Rattle.levels.specs.Stays.{Holds}
-use Rattle.levels.proofs.Spells.{Sooner}
+use Rattle.levels.proofs.Spans.{Sooner}
 
 -- points 0 to j - 1 of n end before m: from m on only the others count
 pub record Passed (f : ℕ → Point) (n j m : ℕ) : Type 0 where

@@ -8,19 +8,19 @@ use native.Mathlib.Omega.{arith}
 use Rattle.rules.specs.declared.Level.{Level}
 use Rattle.rules.specs.declared.Levels.{Levels}
 use Rattle.rules.specs.declared.PowerRange.{PowerRange}
-use Rattle.rules.specs.Minutes.{Work, levelAmong, levelsAt, levelsFit, aboveMax, belowMin, levelsEvery, levelsSome}
-use Rattle.levels.specs.declared.Findings.{Findings}
-use Rattle.levels.specs.Findings.{withSpell, findings}
+use Rattle.rules.specs.Minutes.{FullRecord, levelAmong, levelsAt, levelsFit, aboveMax, belowMin, levelsEvery, levelsSome}
+use Rattle.levels.specs.declared.SweepResult.{SweepResult}
+use Rattle.levels.specs.Result.{withSpan, sweepResult}
 use Rattle.levels.specs.Stays.{Holds}
-use Rattle.levels.proofs.Spells.{Sooner, holds-of, holds-less, every-none, every-turn, some-none, some-turn}
+use Rattle.levels.proofs.Spans.{Sooner, holds-of, holds-less, every-none, every-turn, some-none, some-turn}
 
-module _ (kind : ℕ) (range : PowerRange) (ws : List Work) (direction start : ℕ) where
-  found-none : record { fits = true; above = false; below = false } ≡ findings kind range ws direction start start
-  unfolding findings levelsEvery levelsSome
+module _ (kind : ℕ) (range : PowerRange) (ws : List FullRecord) (direction start : ℕ) where
+  found-none : record { fits = true; above = false; below = false } ≡ sweepResult kind range ws direction start start
+  unfolding sweepResult levelsEvery levelsSome
   found-none = rw (every-none, some-none, some-none)
 
-  found-turn : {m n : ℕ} {l : Levels} → start ≤ m → Holds (levelsAt ws direction) m l n → findings kind range ws direction start n ≡ withSpell (findings kind range ws direction start m) kind range l
-  unfolding findings levelsEvery levelsSome
+  found-turn : {m n : ℕ} {l : Levels} → start ≤ m → Holds (levelsAt ws direction) m l n → sweepResult kind range ws direction start n ≡ withSpan (sweepResult kind range ws direction start m) kind range l
+  unfolding sweepResult levelsEvery levelsSome
   found-turn {m} {n} {l} o h =
       λ i. record {
         fits = every-turn start o (holds-of h (levelsFit kind range)) i;
@@ -42,39 +42,39 @@ module _ (kind : ℕ) (range : PowerRange) (ws : List Work) (direction start : �
     unfolding levelsSome
     some-quiet test f = some-turn start from (quiet test false f) ∙ or-false (levelsSome test ws direction start m)
 
-    found-quiet : findings kind range ws direction start n ≡ findings kind range ws direction start m
-    unfolding findings levelsFit aboveMax belowMin
+    found-quiet : sweepResult kind range ws direction start n ≡ sweepResult kind range ws direction start m
+    unfolding sweepResult levelsFit aboveMax belowMin
     found-quiet =
         rw (every-quiet (levelsFit kind range) (λ l e. rw e), some-quiet (aboveMax kind range) (λ l e. rw e), some-quiet (belowMin kind range) (λ l e. rw e))
 
   -- where no minute is left
-  found-empty : {m end : ℕ} → m ≤ start → end ≤ start → findings kind range ws direction start m ≡ findings kind range ws direction start end
-  unfolding findings levelsEvery levelsSome
+  found-empty : {m end : ℕ} → m ≤ start → end ≤ start → sweepResult kind range ws direction start m ≡ sweepResult kind range ws direction start end
+  unfolding sweepResult levelsEvery levelsSome
   found-empty {m} {end} a b =
       let x : m - start ≡ 0 = omega arith in
       let y : end - start ≡ 0 = omega arith in
       rw (x, y)
 
   -- all minutes before m are judged
-  pub record Judged (end m : ℕ) (g : Findings) : Type 0 where
+  pub record Judged (end m : ℕ) (g : SweepResult) : Type 0 where
     pub from : start ≤ m
     pub to : (m ≤ end) ⊎ (m ≤ start)
-    pub found : g ≡ findings kind range ws direction start m
+    pub found : g ≡ sweepResult kind range ws direction start m
 
   pub judged-none : {end m : ℕ} → m ≡ start → Judged end m (record { fits = true; above = false; below = false })
-  judged-none {end} {m} e = record { from = omega arith; to = inr (omega arith); found = found-none ∙ ap (λ (k : ℕ). findings kind range ws direction start k) (sym e) }
+  judged-none {end} {m} e = record { from = omega arith; to = inr (omega arith); found = found-none ∙ ap (λ (k : ℕ). sweepResult kind range ws direction start k) (sym e) }
 
-  pub judged-turn : {end m n until : ℕ} {g k : Findings} {l : Levels} → Judged end m g → m < end → Holds (levelsAt ws direction) m l until → k ≡ withSpell g kind range l → Sooner until end n → Judged end n k
+  pub judged-turn : {end m n until : ℕ} {g k : SweepResult} {l : Levels} → Judged end m g → m < end → Holds (levelsAt ws direction) m l until → k ≡ withSpan g kind range l → Sooner until end n → Judged end n k
   judged-turn {end} {m} {n} {until} {g} {k} {l} w o h e z =
       let up = z .above m (h .later) o in
       let before = w .from in
       record {
         from = omega arith;
         to = inl (z .two);
-        found = e ∙ ap (λ (g : Findings). withSpell g kind range l) (w .found) ∙ sym (found-turn (w .from) (holds-less h up (z .one)));
+        found = e ∙ ap (λ (g : SweepResult). withSpan g kind range l) (w .found) ∙ sym (found-turn (w .from) (holds-less h up (z .one)));
       }
 
-  pub judged-quiet : {end m n until : ℕ} {g : Findings} {v : Level} → Judged end m g → m < end → Holds (levelAmong ws 4 direction) m v until → v .there ≡ false → Sooner until end n → Judged end n g
+  pub judged-quiet : {end m n until : ℕ} {g : SweepResult} {v : Level} → Judged end m g → m < end → Holds (levelAmong ws 4 direction) m v until → v .there ≡ false → Sooner until end n → Judged end n g
   judged-quiet {end} {m} {n} {until} {g} {v} w o h e z =
       let up = z .above m (h .later) o in
       let before = w .from in
@@ -84,10 +84,10 @@ module _ (kind : ℕ) (range : PowerRange) (ws : List Work) (direction start : �
         found = w .found ∙ sym (found-quiet (w .from) (holds-less h up (z .one)) e);
       }
 
-  pub judged-all : {end m : ℕ} {g : Findings} → Judged end m g → end ≤ m → g ≡ findings kind range ws direction start end
+  pub judged-all : {end m : ℕ} {g : SweepResult} → Judged end m g → end ≤ m → g ≡ sweepResult kind range ws direction start end
   judged-all {end} {m} w o =
       w .found
       ∙ ⊎-elim
-      (λ l. let e : m ≡ end = omega arith in ap (λ (k : ℕ). findings kind range ws direction start k) e)
+      (λ l. let e : m ≡ end = omega arith in ap (λ (k : ℕ). sweepResult kind range ws direction start k) e)
       (λ l. found-empty l (omega arith))
       (w .to)

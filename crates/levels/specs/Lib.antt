@@ -1,4 +1,4 @@
 pub mod Points
 pub mod Stays
-pub mod Works
-pub mod Findings
+pub mod Counted
+pub mod Result

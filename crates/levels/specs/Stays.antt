@@ -3,16 +3,16 @@ use Prim.Native.Nat.{ℕ, _<_, _≤_}
 use mathlib.Core.Path.{_≡_}
 use Rattle.rules.specs.declared.Level.{Level}
 use Rattle.rules.specs.declared.Levels.{Levels}
-use Rattle.levels.specs.declared.Step.{Step}
-use Rattle.levels.specs.declared.Spell.{Spell}
+use Rattle.levels.specs.declared.LevelSpan.{LevelSpan}
+use Rattle.levels.specs.declared.LevelsSpan.{LevelsSpan}
 
 -- v is f's value at m, and at every minute from m up to n; n is later than m
 pub record Holds {A : Type 0} (f : ℕ → A) (m : ℕ) (v : A) (n : ℕ) : Type 0 where
   pub later : m < n
   pub same : (k : ℕ) → m ≤ k → k < n → f k ≡ v
 
-abbrev pub Stays : (ℕ → Level) → ℕ → Step → Type 0
+abbrev pub Stays : (ℕ → Level) → ℕ → LevelSpan → Type 0
 Stays f m r = Holds f m (r .level) (r .until .0)
 
-abbrev pub Stood : (ℕ → Levels) → ℕ → Spell → Type 0
+abbrev pub Stood : (ℕ → Levels) → ℕ → LevelsSpan → Type 0
 Stood f m r = Holds f m (r .levels) (r .until .0)

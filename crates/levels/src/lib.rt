@@ -21,8 +21,8 @@ ghost use Rattle.rules.specs.Minutes.{noLevel, levelOf, orElse, levelAmong, lev
 ghost use Rattle.rules.specs.Questions.{recordOf, recordAt};
 ghost use Rattle.levels.specs.Points.{pointAt, levelAmongPoints, levelOfPoints};
 ghost use Rattle.quantities.specs.Quantities.{earlierOf};
-ghost use Rattle.levels.specs.Works.{reportWork, slotWork, countedWorks, sweptWorks};
-ghost use Rattle.levels.specs.Findings.{withSpell, findings};
+ghost use Rattle.levels.specs.Counted.{reportRecord, slotRecord, countedRecords, sweptRecords};
+ghost use Rattle.levels.specs.Result.{withSpan, sweepResult};
 ghost use Rattle.levels.specs.Stays.{Stays, Stood};
 
 // Where a part ends, and its power.
@@ -32,12 +32,12 @@ pub struct Point {
 }
 
 // A level, and a later minute up to which it stays.
-pub struct Step {
+pub struct LevelSpan {
     pub level: Level,
     pub until: Minute,
 }
 
-pub struct Spell {
+pub struct LevelsSpan {
     pub levels: Levels,
     pub until: Minute,
 }
@@ -49,7 +49,7 @@ pub struct Swept {
 }
 
 // Question 17, and warnings 2 and 4.
-pub struct Findings {
+pub struct SweepResult {
     pub fits: bool,
     pub above: bool,
     pub below: bool,
@@ -62,14 +62,14 @@ pub struct PointList {
 }
 
 // No level, up to a minute.
-fn none_until(until: Minute) -> Step
+fn none_until(until: Minute) -> LevelSpan
     ensures { λ r. ⌜ (r .level ≡ noLevel) × (r .until ≡ until) ⌝ }
 {
     let level = Level {
         there: false,
         power: Kilowatt(0),
     };
-    Step { level, until }
+    LevelSpan { level, until }
 }
 
 // Where point j ends.
@@ -100,7 +100,7 @@ fn point_at(s: &[u8], in_report: bool, j: u16) -> Point
 }
 
 // The power of the first point that ends after the minute; it stays up to that end.
-fn step_among(s: &[u8], list: PointList, m: Minute) -> Step
+fn step_among(s: &[u8], list: PointList, m: Minute) -> LevelSpan
     requires { ⌜ m .0 < 4294967295 ⌝ }
     ensures { λ r. ⌜ Stays (levelAmongPoints (series (pointAt (now (s .entry)) (list .«in_report»)) 0 (list .count))) (m .0) r ⌝ }
 {
@@ -110,7 +110,7 @@ fn step_among(s: &[u8], list: PointList, m: Minute) -> Step
         if m.0 < until.0 {
             let power = point_at(s, list.in_report, j).power;
             let level = Level { there: true, power };
-            return Step { level, until };
+            return LevelSpan { level, until };
         }
     }
     none_until(Minute(4294967295))
@@ -130,7 +130,7 @@ fn record_step(
     record_type: u8,
     direction: u8,
     m: Minute,
-) -> Step
+) -> LevelSpan
     requires { ⌜ m .0 < 4294967295 ⌝ }
     requires { ⌜ (eqb (r .«record_type») «record_type» && eqb (r .direction) direction) ≡ true ⌝ }
     ensures { λ b. ⌜ Stays (levelOfPoints r (series (pointAt (now (s .entry)) (list .«in_report»)) 0 (list .count)) «record_type» direction) (m .0) b ⌝ }
@@ -146,7 +146,7 @@ fn record_step(
     let among = step_among(s, list, m);
     let level = among.level;
     let until = quantities::earlier(among.until, end);
-    Step { level, until }
+    LevelSpan { level, until }
 }
 
 fn report_is_of(report: &[u8], record_type: u8, direction: u8) -> bool
@@ -165,10 +165,10 @@ fn slot_is_of(b: &[u8], i: u8, record_type: u8, direction: u8) -> bool
     )
 }
 
-fn report_step(report: &[u8], record_type: u8, direction: u8, m: Minute) -> Step
+fn report_step(report: &[u8], record_type: u8, direction: u8, m: Minute) -> LevelSpan
     requires { ⌜ m .0 < 4294967295 ⌝ }
     requires { ⌜ (eqb (recordOf (now report) .«record_type») «record_type» && eqb (recordOf (now report) .direction) direction) ≡ true ⌝ }
-    ensures { λ r. ⌜ Stays (levelOf (reportWork (now (report .entry))) «record_type» direction) (m .0) r ⌝ }
+    ensures { λ r. ⌜ Stays (levelOf (reportRecord (now (report .entry))) «record_type» direction) (m .0) r ⌝ }
 {
     let h = report::head_of(report);
     let list = PointList {
@@ -185,10 +185,10 @@ fn report_step(report: &[u8], record_type: u8, direction: u8, m: Minute) -> Step
     )
 }
 
-fn slot_step(b: &[u8], i: u8, record_type: u8, direction: u8, m: Minute) -> Step
+fn slot_step(b: &[u8], i: u8, record_type: u8, direction: u8, m: Minute) -> LevelSpan
     requires { ⌜ m .0 < 4294967295 ⌝ }
     requires { ⌜ (eqb (recordAt (now b) i .«record_type») «record_type» && eqb (recordAt (now b) i .direction) direction) ≡ true ⌝ }
-    ensures { λ r. ⌜ Stays (levelOf (slotWork (now (b .entry)) i) «record_type» direction) (m .0) r ⌝ }
+    ensures { λ r. ⌜ Stays (levelOf (slotRecord (now (b .entry)) i) «record_type» direction) (m .0) r ⌝ }
 {
     let z = block::slot_at(b, i);
     let list = PointList {
@@ -199,18 +199,18 @@ fn slot_step(b: &[u8], i: u8, record_type: u8, direction: u8, m: Minute) -> Step
 }
 
 // The first of two levels that is there, up to the sooner change of the two.
-fn first_of(a: Step, b: Step) -> Step
+fn first_of(a: LevelSpan, b: LevelSpan) -> LevelSpan
     ensures { λ r. ⌜ (r .level ≡ orElse (a .level) (b .level)) × (r .until ≡ earlierOf (a .until) (b .until)) ⌝ }
 {
     let until = quantities::earlier(a.until, b.until);
     let level = if a.level.there { a.level } else { b.level };
-    Step { level, until }
+    LevelSpan { level, until }
 }
 
 // The level of the slots that are counted, from the last to the first.
-fn slots_step(b: &[u8], counted: [bool; 8], record_type: u8, direction: u8, m: Minute) -> Step
+fn slots_step(b: &[u8], counted: [bool; 8], record_type: u8, direction: u8, m: Minute) -> LevelSpan
     requires { ⌜ m .0 < 4294967295 ⌝ }
-    ensures { λ r. ⌜ Stays (levelAmong (countedWorks (now (b .entry)) counted) «record_type» direction) (m .0) r ⌝ }
+    ensures { λ r. ⌜ Stays (levelAmong (countedRecords (now (b .entry)) counted) «record_type» direction) (m .0) r ⌝ }
 {
     let mut r = none_until(Minute(4294967295));
     let mut i: u8 = 8;
@@ -234,9 +234,9 @@ fn level_at(
     record_type: u8,
     direction: u8,
     m: Minute,
-) -> Step
+) -> LevelSpan
     requires { ⌜ m .0 < 4294967295 ⌝ }
-    ensures { λ r. ⌜ Stays (levelAmong (sweptWorks (now (b .entry)) (now (report .entry)) (swept .counted) (swept .«with_report»)) «record_type» direction) (m .0) r ⌝ }
+    ensures { λ r. ⌜ Stays (levelAmong (sweptRecords (now (b .entry)) (now (report .entry)) (swept .counted) (swept .«with_report»)) «record_type» direction) (m .0) r ⌝ }
 {
     let counted = swept.counted;
     let slots = slots_step(b, counted, record_type, direction, m);
@@ -250,10 +250,17 @@ fn level_at(
 }
 
 // The three levels in a minute, after that of forced work.
-fn levels_at(b: &[u8], report: &[u8], swept: Swept, direction: u8, m: Minute, f: Step) -> Spell
+fn levels_at(
+    b: &[u8],
+    report: &[u8],
+    swept: Swept,
+    direction: u8,
+    m: Minute,
+    f: LevelSpan,
+) -> LevelsSpan
     requires { ⌜ m .0 < 4294967295 ⌝ }
-    requires { ⌜ Stays (levelAmong (sweptWorks (now b) (now report) (swept .counted) (swept .«with_report»)) 4 direction) (m .0) f ⌝ }
-    ensures { λ r. ⌜ Stood (levelsAt (sweptWorks (now (b .entry)) (now (report .entry)) (swept .counted) (swept .«with_report»)) direction) (m .0) r ⌝ }
+    requires { ⌜ Stays (levelAmong (sweptRecords (now b) (now report) (swept .counted) (swept .«with_report»)) 4 direction) (m .0) f ⌝ }
+    ensures { λ r. ⌜ Stood (levelsAt (sweptRecords (now (b .entry)) (now (report .entry)) (swept .counted) (swept .«with_report»)) direction) (m .0) r ⌝ }
 {
     let p = level_at(b, report, swept, POSITIVE_DERATING, direction, m);
     let n = level_at(b, report, swept, NEGATIVE_DERATING, direction, m);
@@ -267,7 +274,7 @@ fn levels_at(b: &[u8], report: &[u8], swept: Swept, direction: u8, m: Minute, f:
         positive,
         negative,
     };
-    Spell { levels, until }
+    LevelsSpan { levels, until }
 }
 
 fn fits_w1_m1(range: PowerRange, l: Levels) -> bool
@@ -319,11 +326,11 @@ fn below_min(kind: u8, range: PowerRange, l: Levels) -> bool
         & (l.forced.power.0 < range.min.0)
 }
 
-// What was found, with one spell more.
-fn add_spell(g: Findings, kind: u8, range: PowerRange, l: Levels) -> Findings
-    ensures { λ r. ⌜ r ≡ withSpell g kind range l ⌝ }
+// What was found, with one span more.
+fn add_span(g: SweepResult, kind: u8, range: PowerRange, l: Levels) -> SweepResult
+    ensures { λ r. ⌜ r ≡ withSpan g kind range l ⌝ }
 {
-    Findings {
+    SweepResult {
         fits: g.fits & levels_fit(kind, range, l),
         above: g.above | above_max(kind, range, l),
         below: g.below | below_min(kind, range, l),
@@ -332,14 +339,14 @@ fn add_spell(g: Findings, kind: u8, range: PowerRange, l: Levels) -> Findings
 
 // Question 17 and warnings 2 and 4 in every minute of a period: a turn for each change of a level, none for a minute.
 // Without forced work nothing is found, so the deratings are not looked up.
-pub fn sweep(b: &[u8], report: &[u8], swept: Swept, kind: u8, range: PowerRange) -> Findings
-    ensures { λ r. ⌜ r ≡ findings kind range (sweptWorks (now (b .entry)) (now (report .entry)) (swept .counted) (swept .«with_report»)) (headOf (now (report .entry)) .direction) (headOf (now (report .entry)) .period .start .0) (headOf (now (report .entry)) .period .end .0) ⌝ }
+pub fn sweep(b: &[u8], report: &[u8], swept: Swept, kind: u8, range: PowerRange) -> SweepResult
+    ensures { λ r. ⌜ r ≡ sweepResult kind range (sweptRecords (now (b .entry)) (now (report .entry)) (swept .counted) (swept .«with_report»)) (headOf (now (report .entry)) .direction) (headOf (now (report .entry)) .period .start .0) (headOf (now (report .entry)) .period .end .0) ⌝ }
 {
     let h = report::head_of(report);
     let direction = h.direction;
     let end = h.period.end;
     let mut m = h.period.start;
-    let mut g = Findings {
+    let mut g = SweepResult {
         fits: true,
         above: false,
         below: false,
@@ -347,10 +354,10 @@ pub fn sweep(b: &[u8], report: &[u8], swept: Swept, kind: u8, range: PowerRange)
     while m.0 < end.0 {
         let forced = level_at(b, report, swept, FORCED_WORK, direction, m);
         if forced.level.there {
-            let spell = levels_at(b, report, swept, direction, m, forced);
-            let levels = spell.levels;
-            g = add_spell(g, kind, range, levels);
-            m = quantities::earlier(spell.until, end);
+            let span = levels_at(b, report, swept, direction, m, forced);
+            let levels = span.levels;
+            g = add_span(g, kind, range, levels);
+            m = quantities::earlier(span.until, end);
         } else {
             m = quantities::earlier(forced.until, end);
         }

@@ -11,7 +11,7 @@ use lib.Seq.{length-take-le, take-suc}
 use borrow.Author.Tests.{lt-ltb, le-ltb}
 use Rattle.fields.specs.Lists.{pick, put}
 use Rattle.fields.proofs.Bools.{and-right, pick-elim}
-use Rattle.fields.proofs.Stretches.{put-append}
+use Rattle.fields.proofs.Slices.{put-append}
 use Rattle.quantities.specs.declared.Minute.{Minute}
 use Rattle.quantities.specs.Quantities.{isTime}
 use Rattle.calendar.specs.Calendar.{digit, dateOf, dateText, printed}

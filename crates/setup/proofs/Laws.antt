@@ -13,25 +13,25 @@ use borrow.Author.Tests.{eqb-true, eq-eqb, ne-eqb, not-true, not-false}
 use Rattle.fields.specs.Fields.{bytesOf}
 use Rattle.fields.specs.Lists.{pick, joined, part, put}
 use Rattle.fields.proofs.Bools.{every-true, range-true}
-use Rattle.fields.proofs.Stretches.{put-nothing, put-append, put-length, part-length, part-lent, lent-back}
+use Rattle.fields.proofs.Slices.{put-nothing, put-append, put-length, part-length, part-lent, lent-back}
 use Rattle.fields.proofs.Joined.{joined-cut, joined-length}
 use Rattle.rules.specs.declared.RosterEntry.{RosterEntry}
 use Rattle.rules.specs.Roster.{entrySize, entryOf, rosterGood, piecesPass}
 use Rattle.rules.specs.Block.{slotSize, slotCount, blockSize, zeros, headBytes, freshBlock}
 use Rattle.rules.specs.Desk.{units, entryAt, newRegister, setUp}
-use Rattle.setup.specs.Written.{putUnit, putRow, putPowers, refusalOf}
+use Rattle.setup.specs.Written.{putUnit, putFreshRow, putPowers, refusalOf}
 
 zeros-head : (n m : ℕ) → zeros (n + m) ≡ zeros n ++ zeros m
 unfolding zeros
 zeros-head n m = sym (replicate-append-replicate n m 0)
 
 -- the writes on zeros, as paper 01's list of bytes
-written : (tail : List ℕ) (unit : ℕ) (e : RosterEntry) → putPowers (putRow (putUnit (zeros 64 ++ tail) unit (e .owner) (e .kind)) (e .row)) (e .powers) ≡ headBytes (record { unit = unit; owner = e .owner; kind = e .kind; row = e .row; «last_stamp» = e .row .since; powers = e .powers }) ++ tail
-unfolding putPowers putRow putUnit headBytes put bytesOf zeros
+written : (tail : List ℕ) (unit : ℕ) (e : RosterEntry) → putPowers (putFreshRow (putUnit (zeros 64 ++ tail) unit (e .owner) (e .kind)) (e .row)) (e .powers) ≡ headBytes (record { unit = unit; owner = e .owner; kind = e .kind; row = e .row; «last_stamp» = e .row .since; powers = e .powers }) ++ tail
+unfolding putPowers putFreshRow putUnit headBytes put bytesOf zeros
 written tail unit e = refl
 
 -- a block cleared and written, one group of fields after the other
-pub fresh-written : (unit : ℕ) (e : RosterEntry) (first : List ℕ) {a b c d : List ℕ} → length first ≡ blockSize → a ≡ zeros (length first) → b ≡ putUnit a unit (e .owner) (e .kind) → c ≡ putRow b (e .row) → d ≡ putPowers c (e .powers) → d ≡ freshBlock unit e
+pub fresh-written : (unit : ℕ) (e : RosterEntry) (first : List ℕ) {a b c d : List ℕ} → length first ≡ blockSize → a ≡ zeros (length first) → b ≡ putUnit a unit (e .owner) (e .kind) → c ≡ putFreshRow b (e .row) → d ≡ putPowers c (e .powers) → d ≡ freshBlock unit e
 unfolding freshBlock
 fresh-written unit e first {a} {b} {c} {d} long cleared named rowed powered =
     let zero : a ≡ zeros 64 ++ zeros (slotSize * slotCount) = cleared ∙ ap zeros long ∙ zeros-head 64 (slotSize * slotCount) in

@@ -2,7 +2,7 @@ use native.Mathlib.Omega.{arith}
 use mathlib.Core.Path.{ap, sym, _∙_}
 use mathlib.Core.List.{List}
 use Prim.Native.Nat.{ℕ, _*_, _-_}
-use Rattle.fields.proofs.Stretches.{part-lent, lent-back}
+use Rattle.fields.proofs.Slices.{part-lent, lent-back}
 use borrow.Author.Tests.{not-false}
 use Rattle.report.specs.declared.Head.{Head}
 use Rattle.report.proofs.Sizes.{whole-sized}

@@ -7,11 +7,11 @@ use borrow.Author.Needs.{needs}
 use Rattle.desk.proofs.is_addressed.Statement.{statement}
 use Rattle.desk.proofs.is_addressed.Tie as tie
 
-sub-stretch : tie.Need-sub-stretch
-sub-stretch c = omega (arith, range-true 1 (length (c .before .before .before .before .before .args .register .now) / 7168) (c .before .before .head-of .result .unit) (c .if1 .taken))
+sub-slice-at : tie.Need-sub-slice-at
+sub-slice-at c = omega (arith, range-true 1 (length (c .before .before .before .before .before .args .register .now) / 7168) (c .before .before .head-of .result .unit) (c .if1 .taken))
 
 returns : tie.Need-returns
-returns c = owner-asked _ _ (c .before .before .before .before .before .before .head-of .ensures) (c .before .before .before .before .if1 .taken) (c .before .before .before .stretch .ensures) (c .before .before .unit-head .ensures)
+returns c = owner-asked _ _ (c .before .before .before .before .before .before .head-of .ensures) (c .before .before .before .before .if1 .taken) (c .before .before .before .slice-at .ensures) (c .before .before .unit-head .ensures)
 
 returns-2 : tie.Need-returns-2
 returns-2 c = no-unit _ _ (c .before .before .head-of .ensures) (c .if1 .left)
@@ -22,7 +22,7 @@ is-addressed-spec =
     (tie.spec
     (λ c κs. search needs)
     (λ c. search needs)
-    sub-stretch
+    sub-slice-at
     (λ c. search needs)
     (λ c κs. search needs)
     (λ c κs. search needs)

@@ -4,7 +4,7 @@ use Rattle.judge.proofs.clash_is_closed.Statement.{statement}
 use Rattle.judge.proofs.clash_is_closed.Tie as tie
 
 returns : tie.Need-returns
-returns c = clash-join _ _ _ (c .before .before .before .before .record-of .ensures) (c .before .before .before .record-at .ensures) (c .before .before .is-other .ensures) (c .before .records-clash .ensures) (c .is-closed-by .ensures)
+returns c = clash-join _ _ _ (c .before .before .before .before .record-of .ensures) (c .before .before .before .record-at .ensures) (c .before .before .is-other .ensures) (c .before .records-clash .ensures) (c .record-closes .ensures)
 
 pub clash-is-closed-spec : {M : Type 1} → statement M
 clash-is-closed-spec =

@@ -4,7 +4,7 @@ use Rattle.judge.proofs.state_may_change.Statement.{statement}
 use Rattle.judge.proofs.state_may_change.Tie as tie
 
 returns : tie.Need-returns
-returns c = state-join _ _ (c .before .before .before .before .unit-head .ensures) (c .before .before .changes-state .ensures) (c .before .head-of .ensures) (c .has-arrow .ensures)
+returns c = state-join _ _ (c .before .before .before .before .unit-head .ensures) (c .before .before .changes-state .ensures) (c .before .head-of .ensures) (c .has-transition .ensures)
 
 pub state-may-change-spec : {M : Type 1} → statement M
 state-may-change-spec =

@@ -6,7 +6,7 @@ use borrow.Author.Needs.{needs}
 use native.Mathlib.Nat.{zero-add}
 use lib.ListN.{length, take, length-set}
 use Rattle.fields.specs.Lists.{series}
-use Rattle.fields.proofs.Stretches.{filled-none, filled-more, filled-all}
+use Rattle.fields.proofs.Slices.{filled-none, filled-more, filled-all}
 use Rattle.rules.specs.Block.{slotAt, used}
 use Rattle.judge.proofs.used_slots.Statement.{statement}
 use Rattle.judge.proofs.used_slots.Tie as tie

@@ -1,7 +1,7 @@
 use mathlib.Core.Path.{sym, _∙_}
 use borrow.Author.Tests.{not-true, not-false}
-use Rattle.levels.proofs.Spells.{sooner}
-use Rattle.levels.proofs.Works.{swept-with, swept-without, swept-another}
+use Rattle.levels.proofs.Spans.{sooner}
+use Rattle.levels.proofs.Counted.{swept-with, swept-without, swept-another}
 use borrow.Author.Needs.{needs}
 use Rattle.levels.proofs.level_at.Statement.{statement}
 use Rattle.levels.proofs.level_at.Tie as tie

@@ -1,5 +1,5 @@
-use Rattle.levels.proofs.Spells.{sooner}
-use Rattle.levels.proofs.Works.{three}
+use Rattle.levels.proofs.Spans.{sooner}
+use Rattle.levels.proofs.Counted.{three}
 use borrow.Author.Needs.{needs}
 use Rattle.levels.proofs.levels_at.Statement.{statement}
 use Rattle.levels.proofs.levels_at.Tie as tie

@@ -1,7 +1,7 @@
 use native.Mathlib.Omega.{arith}
 use mathlib.Core.Path.{ap}
 use Rattle.quantities.specs.declared.Minute.{Minute}
-use Rattle.levels.proofs.Spells.{sooner}
+use Rattle.levels.proofs.Spans.{sooner}
 use Rattle.levels.proofs.Parts.{before-start, past-end, within}
 use borrow.Author.Needs.{needs}
 use Rattle.levels.proofs.record_step.Statement.{statement}

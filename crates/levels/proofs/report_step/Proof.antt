@@ -1,6 +1,6 @@
 use mathlib.Core.Path.{sym}
 use Rattle.levels.proofs.Parts.{asked-of}
-use Rattle.levels.proofs.Works.{report-stays}
+use Rattle.levels.proofs.Counted.{report-stays}
 use borrow.Author.Needs.{needs}
 use Rattle.levels.proofs.report_step.Statement.{statement}
 use Rattle.levels.proofs.report_step.Tie as tie

@@ -1,7 +1,7 @@
 use mathlib.Core.Path.{ap, sym, _∙_}
 use Rattle.rules.specs.Block.{recordIn}
 use Rattle.levels.proofs.Parts.{asked-of}
-use Rattle.levels.proofs.Works.{slot-stays}
+use Rattle.levels.proofs.Counted.{slot-stays}
 use borrow.Author.Needs.{needs}
 use Rattle.levels.proofs.slot_step.Statement.{statement}
 use Rattle.levels.proofs.slot_step.Tie as tie

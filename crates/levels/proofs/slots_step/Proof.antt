@@ -5,15 +5,15 @@ use native.Mathlib.Omega.{arith}
 use borrow.Author.Needs.{needs}
 use lib.ListN.{getD}
 use Rattle.quantities.specs.declared.Minute.{Minute}
-use Rattle.rules.specs.Minutes.{levelAmong, worksAmong}
+use Rattle.rules.specs.Minutes.{levelAmong, recordsAmong}
 use Rattle.levels.specs.Stays.{Holds}
-use Rattle.levels.proofs.Spells.{sooner}
-use Rattle.levels.proofs.Works.{slots-none, slots-counted, slots-another, slots-passed}
+use Rattle.levels.proofs.Spans.{sooner}
+use Rattle.levels.proofs.Counted.{slots-none, slots-counted, slots-another, slots-passed}
 use Rattle.levels.proofs.slots_step.Statement.{statement}
 use Rattle.levels.proofs.slots_step.Tie as tie
 
 abbrev Inv-loop : tie.InvT-loop
-Inv-loop b record-type direction m counted r₀ i₀ r i = (i ≤ 8) × Holds (levelAmong (worksAmong b (λ j. getD counted j false) i (8 - i)) record-type direction) (m .0) (r .level) (r .until .0)
+Inv-loop b record-type direction m counted r₀ i₀ r i = (i ≤ 8) × Holds (levelAmong (recordsAmong b (λ j. getD counted j false) i (8 - i)) record-type direction) (m .0) (r .level) (r .until .0)
 
 abbrev μ-loop : tie.MeasureT-loop
 μ-loop b record-type direction m counted r₀ i₀ r i = i

@@ -4,14 +4,14 @@ use native.Mathlib.Omega.{arith}
 use borrow.Author.Needs.{needs}
 use Rattle.report.specs.declared.Head.{Head}
 use Rattle.report.specs.Report.{headOf}
-use Rattle.levels.specs.Works.{sweptWorks}
-use Rattle.levels.proofs.Spells.{sooner}
+use Rattle.levels.specs.Counted.{sweptRecords}
+use Rattle.levels.proofs.Spans.{sooner}
 use Rattle.levels.proofs.Turns.{Judged, judged-none, judged-turn, judged-quiet, judged-all}
 use Rattle.levels.proofs.sweep.Statement.{statement}
 use Rattle.levels.proofs.sweep.Tie as tie
 
 abbrev Inv-loop : tie.InvT-loop
-Inv-loop b report swept kind range direction end m₀ g₀ m g = (direction ≡ headOf report .direction) × (end .0 ≡ headOf report .period .end .0) × Judged kind range (sweptWorks b report (swept .counted) (swept .«with_report»)) direction (headOf report .period .start .0) (end .0) (m .0) g
+Inv-loop b report swept kind range direction end m₀ g₀ m g = (direction ≡ headOf report .direction) × (end .0 ≡ headOf report .period .end .0) × Judged kind range (sweptRecords b report (swept .counted) (swept .«with_report»)) direction (headOf report .period .start .0) (end .0) (m .0) g
 
 abbrev μ-loop : tie.MeasureT-loop
 μ-loop b report swept kind range direction end m₀ g₀ m g = end .0 - m .0
@@ -23,7 +23,7 @@ loop-less : tie.Need-loop-less Inv-loop μ-loop
 loop-less c = omega (arith, sooner (c .earlier .ensures) .above _ (c .before .before .before .levels-at .ensures .later) (c .before .before .before .before .before .before .if1 .taken))
 
 loop-again : tie.Need-loop-again Inv-loop μ-loop
-loop-again c = (c .before .before .before .before .before .before .before .before .before .loop .inv .0, c .before .before .before .before .before .before .before .before .before .loop .inv .1, judged-turn _ _ _ _ _ (c .before .before .before .before .before .before .before .before .before .loop .inv .2) (c .before .before .before .before .before .before .if1 .taken) (c .before .before .before .levels-at .ensures) (c .before .add-spell .ensures) (sooner (c .earlier .ensures)))
+loop-again c = (c .before .before .before .before .before .before .before .before .before .loop .inv .0, c .before .before .before .before .before .before .before .before .before .loop .inv .1, judged-turn _ _ _ _ _ (c .before .before .before .before .before .before .before .before .before .loop .inv .2) (c .before .before .before .before .before .before .if1 .taken) (c .before .before .before .levels-at .ensures) (c .before .add-span .ensures) (sooner (c .earlier .ensures)))
 
 loop-less-2 : tie.Need-loop-less-2 Inv-loop μ-loop
 loop-less-2 c = omega (arith, sooner (c .earlier2 .ensures) .above _ (c .before .before .level-at .ensures .later) (c .before .before .before .if1 .taken))

@@ -1,0 +1,22 @@
+-- What one sweep finds: question 17 and warnings 2 and 4, in every minute of a period.
+use Prim.Native.Nat.{ℕ}
+use mathlib.Core.List.{List}
+use mathlib.Core.Bool.{Bool, _&&_, _||_}
+use Rattle.rules.specs.declared.Levels.{Levels}
+use Rattle.rules.specs.declared.PowerRange.{PowerRange}
+use Rattle.rules.specs.Minutes.{FullRecord, levelsFit, aboveMax, belowMin, levelsEvery, levelsSome}
+use Rattle.levels.specs.declared.SweepResult.{SweepResult}
+
+abbrev pub withSpan : SweepResult → ℕ → PowerRange → Levels → SweepResult
+withSpan g kind range l = record {
+  fits = g .fits && levelsFit kind range l;
+  above = g .above || aboveMax kind range l;
+  below = g .below || belowMin kind range l;
+}
+
+unfoldable pub sweepResult : ℕ → PowerRange → List FullRecord → ℕ → ℕ → ℕ → SweepResult
+sweepResult kind range ws direction start end = record {
+  fits = levelsEvery (levelsFit kind range) ws direction start end;
+  above = levelsSome (aboveMax kind range) ws direction start end;
+  below = levelsSome (belowMin kind range) ws direction start end;
+}
