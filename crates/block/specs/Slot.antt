@@ -1,17 +1,22 @@
 -- Question 1 of a used slot, as one pass over its pairs asks it: proofs/Pairs.antt shows that it is what paper 01 asks.
-use Prim.Native.Nat.{ℕ, zero, suc, _+_}
+use Prim.Native.Nat.{ℕ, zero, suc, _+_, _*_}
 use mathlib.Core.List.{List, [], _∷_}
 use mathlib.Core.Bool.{Bool, not, _&&_, _||_}
 use lib.Dec.{leb, ltb, eqb}
 use Rattle.fields.specs.Fields.{u16At, u32At}
 use Rattle.fields.specs.Lists.{every}
 use Rattle.quantities.specs.declared.Minute.{Minute}
-use Rattle.quantities.specs.Quantities.{highestPower}
+use Rattle.quantities.specs.Quantities.{minuteAt, kilowattAt, highestPower}
 use Rattle.rules.specs.declared.Record.{Record}
 use Rattle.rules.specs.Codes.{between, stop, offGrid}
 use Rattle.rules.specs.Records.{fieldsInRange, kindAllows, begun}
 use Rattle.rules.specs.Block.{unitMark, zerosAt, unitHead}
 use Rattle.rules.specs.Whole.{headInRange}
+use Rattle.block.specs.declared.Pair.{Pair}
+
+-- pair j of a slot
+abbrev pub pairAt : List ℕ → ℕ → Pair
+pairAt z j = record { end = minuteAt z (88 + 8 * j); power = kilowattAt z (88 + 8 * j + 4) }
 
 -- the part ends rise from start to end, and every power is in range
 unfoldable pub pairsRise : List ℕ → ℕ → ℕ → ℕ → ℕ → Bool

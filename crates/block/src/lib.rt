@@ -29,7 +29,13 @@ ghost use Rattle.fields.specs.Lists.{all, series, part};
 ghost use Rattle.rules.specs.Roster.{powersAt, entryOf, entryGood, piece, rosterGood};
 ghost use Rattle.rules.specs.Block.{zeros, zerosAt, unitHead, slotAt, used, recordIn, storedCount};
 ghost use Rattle.rules.specs.Whole.{recordsApart, slotWhole, slotsApart, blockWhole, registerWhole};
-ghost use Rattle.block.specs.Slot.{pairsRise, holdsAlone, headWhole};
+ghost use Rattle.block.specs.Slot.{pairAt, pairsRise, holdsAlone, headWhole};
+
+// Where a part in a slot ends, and its power.
+pub struct Pair {
+    pub end: Minute,
+    pub power: Kilowatt,
+}
 
 // The n bytes from `at` on; what would lie past the end is left out.
 pub fn slice_at<'a>(s: &'a [u8], at: usize, n: usize) -> &'a [u8]
@@ -189,6 +195,21 @@ pub fn stored_count(z: &[u8]) -> u16
     ensures { λ r. ⌜ r ≡ storedCount (now (z .entry)) ⌝ }
 {
     u16_at(z, 36)
+}
+
+// Pair j of a slot, from 0.
+pub fn pair_at(z: &[u8], j: u16) -> Pair
+    ensures { λ r. ⌜ r ≡ pairAt (now (z .entry)) j ⌝ }
+{
+    let at = 88 + 8 * (j as usize);
+    if at + 8 <= z.len() {
+        let end = Minute(u32_in(z, at));
+        let power = Kilowatt(u32_in(z, at + 4));
+        return Pair { end, power };
+    }
+    let end = minute_at(z, at);
+    let power = kilowatt_at(z, at + 4);
+    Pair { end, power }
 }
 
 fn all_zero(z: &[u8]) -> bool

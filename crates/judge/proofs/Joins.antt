@@ -104,7 +104,7 @@ reported-swept b s =
     (λ j x y. series-at (other b s) 0 8 j false (omega arith) ∙ ap (other b s) (zero-add j)))
 
 module _ (b s : List ℕ) {h : Head} {t : Bool} (e : h ≡ headOf s) (asked-type : t ≡ isLevelled (h .«record_type»)) where
-  pub minutes-swept : {counted : List Bool} {u : UnitHead} {r : PowerRange} {g : SweepResult} → t ≡ true → counted ≡ series (other b s) 0 8 → u ≡ unitHead b → r ≡ rangeOf (unitHead b .powers) (h .direction) → g ≡ sweepResult (u .kind) r (sweptRecords b s counted true) (headOf s .direction) (headOf s .period .start .0) (headOf s .period .end .0) → g .fits ≡ question17 b s
+  pub minutes-swept : {counted : List Bool} {u : UnitHead} {r : PowerRange} {g : SweepResult} → t ≡ true → counted ≡ series (other b s) 0 8 → u ≡ unitHead b → r ≡ rangeOf (unitHead b .powers) (h .direction) → g ≡ sweepResult (u .kind) r (sweptRecords b s counted true) (h .direction) (h .period .start .0) (h .period .end .0) → g .fits ≡ question17 b s
   unfolding question17 sweepResult
   minutes-swept {counted} {u} {r} {g} y c f q p =
       let levelled : isLevelled (headOf s .«record_type») ≡ true = ap (λ (h : Head). isLevelled (h .«record_type»)) (sym e) ∙ sym asked-type ∙ y in

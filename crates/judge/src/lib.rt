@@ -231,7 +231,8 @@ fn minutes_fit(b: &[u8], report: &[u8], held: u8) -> bool
         };
         let kind = block::unit_head(b).kind;
         let range = range_of(b, h.direction);
-        levels::sweep(b, report, swept, kind, range).fits
+        let period = h.period;
+        levels::sweep(b, report, swept, h.direction, period, kind, range).fits
     } else {
         true
     }
@@ -480,7 +481,8 @@ fn minute_warnings(after: &[u8], report: &[u8]) -> u8
         };
         let kind = block::unit_head(after).kind;
         let range = range_of(after, h.direction);
-        let g = levels::sweep(after, report, swept, kind, range);
+        let period = h.period;
+        let g = levels::sweep(after, report, swept, h.direction, period, kind, range);
         worth_of(2, g.above) + worth_of(4, g.below)
     } else {
         0

@@ -1,113 +1,119 @@
--- The points of a report and of a slot give the levels of their parts; the levels of a list of records. Assumes nothing.
+-- The lanes have the levels of the records that count. Assumes nothing.
 use Prim.Native.Nat.{ℕ, zero, suc, _+_, _*_, _-_, _≤_, _<_}
-use mathlib.Core.Path.{_≡_, refl, ap, sym, _∙_, subst}
-use mathlib.Core.Bool.{Bool, true, false, _&&_}
+use mathlib.Core.Path.{_≡_, refl, ap, sym, _∙_}
+use mathlib.Core.Bool.{Bool, true, false, not, _&&_, and-true, and-false}
 use mathlib.Core.List.{List, [], _∷_}
 use native.Mathlib.Omega.{arith}
-use lib.Dec.{eqb}
+use native.Mathlib.Nat.{zero-add}
+use native.Mathlib.Numerals.{add-one}
+use lib.Dec.{leb, ltb, eqb}
 use lib.ListN.{getD}
+use borrow.Author.Tests.{ne-eqb, le-ltb, not-true, not-false}
 use Rattle.fields.specs.Lists.{pick, series}
+use Rattle.fields.proofs.Tests.{series-at}
 use Rattle.quantities.specs.declared.Minute.{Minute}
-use Rattle.report.specs.declared.Part.{Part}
 use Rattle.report.specs.declared.Head.{Head}
+use Rattle.report.specs.declared.Part.{Part}
 use Rattle.report.specs.Report.{headOf, partAt, partsOf, partCount}
 use Rattle.rules.specs.declared.Level.{Level}
 use Rattle.rules.specs.declared.Levels.{Levels}
 use Rattle.rules.specs.declared.Record.{Record}
-use Rattle.rules.specs.Block.{slotCount, slotAt, recordIn, storedCount, pairsFrom, partsIn}
-use Rattle.rules.specs.Questions.{recordOf, recordAt}
+use Rattle.rules.specs.Block.{slotAt, recordIn, storedCount, pairsFrom, partsIn}
+use Rattle.rules.specs.Questions.{recordBy, recordOf, recordAt}
 use Rattle.rules.specs.Minutes.{noLevel, levelIn, FullRecord, levelOf, orElse, levelAmong, recordsAmong, levelsAt}
-use Rattle.levels.specs.declared.Point.{Point}
-use Rattle.levels.specs.Points.{pointAt, levelAmongPoints, levelOfPoints}
-use Rattle.levels.specs.Counted.{reportRecord, slotRecord, countedRecords, sweptRecords}
-use Rattle.levels.specs.Stays.{Holds}
-use Rattle.levels.proofs.Spans.{Sooner, holds-two, holds-by}
+use Rattle.block.specs.declared.Pair.{Pair}
+use Rattle.levels.specs.declared.Lane.{Lane}
+use Rattle.levels.specs.declared.Swept.{Swept}
+use Rattle.levels.specs.Pairs.{pairOf, levelAmongPairs}
+use Rattle.levels.specs.Lanes.{noLane, laneOf, reportLane, slotLane, laneAt, laneBytes, lanePair, laneLevel, levelAmongLanes}
+use Rattle.levels.specs.Counted.{sweptRecords}
 
--- the points of a report's parts, and of a slot's pairs
-report-points : (s : List ℕ) (i n m : ℕ) → levelIn (series (partAt s) i n) m ≡ levelAmongPoints (series (pointAt s true) i n) m
-unfolding levelIn levelAmongPoints series pointAt pick
-report-points s i zero m = refl
-report-points s i (suc n) m =
-    let a : 48 + 16 * i + 4 + 4 ≡ 56 + 16 * i = omega arith in
-    let b : 48 + 16 * i + 12 ≡ 56 + 16 * i + 4 = omega arith in
-    rw (report-points s (i + 1) n m, a, b)
+-- the pairs of a report's parts, and of a slot
+report-pairs : (s : List ℕ) (i n m : ℕ) → levelIn (series (partAt s) i n) m ≡ levelAmongPairs (series (pairOf s true) i n) m
+unfolding levelIn levelAmongPairs series pairOf pick
+report-pairs s i zero m = refl
+report-pairs s i (suc n) m = rw (report-pairs s (i + 1) n m)
 
-slot-points : (z : List ℕ) (i n m : ℕ) (start : Minute) → levelIn (pairsFrom z (88 + 8 * i) n start) m ≡ levelAmongPoints (series (pointAt z false) i n) m
-unfolding levelIn levelAmongPoints series pointAt pairsFrom pick
-slot-points z i zero m start = refl
-slot-points z i (suc n) m start =
+slot-pairs : (z : List ℕ) (i n m : ℕ) (start : Minute) → levelIn (pairsFrom z (88 + 8 * i) n start) m ≡ levelAmongPairs (series (pairOf z false) i n) m
+unfolding levelIn levelAmongPairs series pairOf pairsFrom pick
+slot-pairs z i zero m start = refl
+slot-pairs z i (suc n) m start =
     let a : 88 + 8 * i + 8 ≡ 88 + 8 * (i + 1) = omega arith in
-    rw (a, slot-points z (i + 1) n m)
+    rw (a, slot-pairs z (i + 1) n m)
 
-pub report-level : (s : List ℕ) (type direction m : ℕ) → levelOf (reportRecord s) type direction m ≡ levelOfPoints (recordOf s) (series (pointAt s true) 0 (partCount s)) type direction m
-unfolding levelOf levelOfPoints
-report-level s type direction m = rw (report-points s 0 (partCount s) m)
+-- the lane of a record that counts, where its direction is asked
+lane-level : (t : Bool) (r : Record) (ps : List Part) (f : ℕ → Pair) (k type direction m : ℕ) → eqb (r .direction) direction ≡ t → levelIn ps m ≡ levelAmongPairs (series f 0 k) m → laneLevel (laneOf t r k) f type m ≡ levelOf (record { fields = r; parts = ps }) type direction m
+unfolding laneLevel laneOf levelOf pick
+lane-level true r ps f k type direction m e p = rw (e, and-true, p)
+lane-level false r ps f k type direction m e p = rw (e, and-false, le-ltb m 0 (omega arith), and-false)
 
-pub slot-level : (b : List ℕ) (i type direction m : ℕ) → levelOf (slotRecord b i) type direction m ≡ levelOfPoints (recordIn (slotAt b i)) (series (pointAt (slotAt b i) false) 0 (storedCount (slotAt b i))) type direction m
-unfolding levelOf levelOfPoints
-slot-level b i type direction m = rw (slot-points (slotAt b i) 0 (storedCount (slotAt b i)) m (recordIn (slotAt b i) .period .start))
+-- whether it counts is asked first
+module _ (b : List ℕ) (i : ℕ) (t : Bool) (direction : ℕ) {l : Lane} where
+  pub slot-uncounted : not t ≡ true → l ≡ noLane → l ≡ slotLane b i t direction
+  unfolding slotLane laneOf pick
+  slot-uncounted n e = e ∙ sym (ap (λ (t : Bool). slotLane b i t direction) (not-true t n))
 
-pub report-stays : (s : List ℕ) (type direction : ℕ) {h : Head} {r : Record} {m n : ℕ} {v : Level} → h ≡ headOf s → r ≡ recordOf s → Holds (levelOfPoints r (series (pointAt s true) 0 (h .«part_count»)) type direction) m v n → Holds (levelOf (reportRecord s) type direction) m v n
-report-stays s type direction {h} {r} {m} {n} {v} e q p =
-    let k : h .«part_count» ≡ partCount s = ap (λ (h : Head). h .«part_count») e in
-    holds-by (rw (q, k) at p) (report-level s type direction)
+  pub slot-counted : {z : List ℕ} {r : Record} {k : ℕ} → not t ≡ false → z ≡ slotAt b i → r ≡ recordIn z → k ≡ storedCount z → l ≡ laneOf (eqb (r .direction) direction) r k → l ≡ slotLane b i t direction
+  unfolding slotLane
+  slot-counted n z r k e = e ∙ rw (k, r, z) (sym (ap (λ (t : Bool). slotLane b i t direction) (not-false t n)))
 
-pub slot-stays : (b : List ℕ) (i type direction : ℕ) {z : List ℕ} {k : ℕ} {r : Record} {m n : ℕ} {v : Level} → z ≡ slotAt b i → k ≡ storedCount z → r ≡ recordIn z → Holds (levelOfPoints r (series (pointAt z false) 0 k) type direction) m v n → Holds (levelOf (slotRecord b i) type direction) m v n
-slot-stays b i type direction {z} {k} {r} {m} {n} {v} e c q p =
-    holds-by (rw e at (rw (q, c) at p)) (slot-level b i type direction)
+module _ (s : List ℕ) (t : Bool) (direction : ℕ) {l : Lane} where
+  pub report-uncounted : not t ≡ true → l ≡ noLane → l ≡ reportLane s t direction
+  unfolding reportLane laneOf pick
+  report-uncounted n e = e ∙ sym (ap (λ (t : Bool). reportLane s t direction) (not-true t n))
 
--- what the code joins is what two functions of the minute join
-pub first-joins : {f g : ℕ → Level} {m n₁ n₂ n : ℕ} {v₁ v₂ v : Level} → Holds f m v₁ n₁ → Holds g m v₂ n₂ → v ≡ orElse v₁ v₂ → Sooner n₁ n₂ n → Holds (λ k. orElse (f k) (g k)) m v n
-first-joins {f} {g} {m} {n₁} {n₂} {n} p q e s = subst (λ v. Holds (λ k. orElse (f k) (g k)) m v n) (sym e) (holds-two orElse p q s)
+  pub report-counted : {h : Head} {r : Record} → not t ≡ false → h ≡ headOf s → r ≡ recordBy h → l ≡ laneOf (eqb (r .direction) direction) r (h .«part_count») → l ≡ reportLane s t direction
+  unfolding reportLane
+  report-counted n h r e = e ∙ rw (r, h) (sym (ap (λ (t : Bool). reportLane s t direction) (not-false t n)))
 
--- the slots from i on, counted down
-module _ (b : List ℕ) (test : ℕ → Bool) (type direction : ℕ) where
-  pub slots-none : {v : Level} {m far : ℕ} → v ≡ noLevel → m < far → Holds (levelAmong (recordsAmong b test 8 (8 - 8)) type direction) m v far
-  unfolding recordsAmong levelAmong
-  slots-none e o = record { later = o; same = λ k l r. sym e }
+-- a lane that does not count
+lane-silent : (r : Record) (f : ℕ → Pair) (k type m : ℕ) → laneLevel (laneOf false r k) f type m ≡ noLevel
+unfolding laneLevel laneOf pick
+lane-silent r f k type m = rw (le-ltb m 0 (omega arith), and-false)
 
-  module _ {i : ℕ} (some : 0 < i) (few : i ≤ 8) where
-    down : recordsAmong b test (i - 1) (8 - (i - 1)) ≡ pick (test (i - 1)) (slotRecord b (i - 1) ∷ recordsAmong b test i (8 - i)) (recordsAmong b test i (8 - i))
-    unfolding recordsAmong
-    down =
-        let e : 8 - (i - 1) ≡ suc (8 - i) = omega arith in
-        let k : i - 1 + 1 ≡ i = omega arith in
-        rw (e, k)
+module _ (b s : List ℕ) (swept : Swept) (type direction m : ℕ) where
+  abbrev lanes : List Lane
+  lanes = series (laneAt b s swept direction) 0 9
 
-    pub slots-counted : {m n₁ n₂ n : ℕ} {v₁ v₂ v : Level} → test (i - 1) ≡ true → Holds (levelOf (slotRecord b (i - 1)) type direction) m v₁ n₁ → Holds (levelAmong (recordsAmong b test i (8 - i)) type direction) m v₂ n₂ → v ≡ orElse v₁ v₂ → Sooner n₁ n₂ n → Holds (levelAmong (recordsAmong b test (i - 1) (8 - (i - 1))) type direction) m v n
-    unfolding levelAmong pick
-    slots-counted t p q e s = rw (down, t) (holds-by (first-joins p q e s) (λ k. refl))
+  abbrev counts : ℕ → Bool
+  counts i = getD (swept .counted) i false
 
-    -- a record of another type or direction has no level
-    pub slots-another : {m n : ℕ} {v : Level} {t : Bool} → test (i - 1) ≡ true → t ≡ (eqb (recordAt b (i - 1) .«record_type») type && eqb (recordAt b (i - 1) .direction) direction) → t ≡ false → Holds (levelAmong (recordsAmong b test i (8 - i)) type direction) m v n → Holds (levelAmong (recordsAmong b test (i - 1) (8 - (i - 1))) type direction) m v n
-    unfolding levelAmong levelOf pick
-    slots-another y e f p = rw (down, y) (holds-by p (λ k. rw (sym e ∙ f)))
+  lane-of-slot : (i : ℕ) → i < 8 → getD lanes (i + 1) noLane ≡ slotLane b i (counts i) direction
+  unfolding laneAt
+  lane-of-slot i l =
+      series-at (laneAt b s swept direction) 0 9 (i + 1) noLane (omega arith)
+      ∙ ap (laneAt b s swept direction) (zero-add (i + 1) ∙ add-one i)
 
-    pub slots-passed : {m n : ℕ} {v : Level} → test (i - 1) ≡ false → Holds (levelAmong (recordsAmong b test i (8 - i)) type direction) m v n → Holds (levelAmong (recordsAmong b test (i - 1) (8 - (i - 1))) type direction) m v n
-    unfolding pick
-    slots-passed t p = rw (down, t) p
+  bytes-of-slot : (i : ℕ) → laneBytes b s (i + 1) ≡ slotAt b i
+  unfolding laneBytes pick
+  bytes-of-slot i =
+      let back : i + 1 - 1 ≡ i = omega arith in
+      rw (ne-eqb (i + 1) 0 (λ e. omega arith), back)
 
--- with the report before the slots, and without
-module _ (b s : List ℕ) (counted : List Bool) (type direction : ℕ) {t : Bool} {m : ℕ} where
-  pub swept-with : {n₁ n₂ n : ℕ} {v₁ v₂ v : Level} → t ≡ true → Holds (levelOf (reportRecord s) type direction) m v₁ n₁ → Holds (levelAmong (countedRecords b counted) type direction) m v₂ n₂ → v ≡ orElse v₁ v₂ → Sooner n₁ n₂ n → Holds (levelAmong (sweptRecords b s counted t) type direction) m v n
-  unfolding sweptRecords levelAmong pick
-  swept-with e p q o z = rw e (holds-by (first-joins p q o z) (λ k. refl))
+  slots-lanes : (i n : ℕ) → i + n ≤ 8 → levelAmongLanes b s lanes type (i + 1) n m ≡ levelAmong (recordsAmong b counts i n) type direction m
+  unfolding levelAmongLanes levelAmong recordsAmong slotLane pick
+  slots-lanes i zero l = refl
+  slots-lanes i (suc n) l =
+      rw (lane-of-slot i (omega arith), bytes-of-slot i, ne-eqb (i + 1) 0 (λ e. omega arith), slots-lanes (i + 1) n (omega arith)) (by-case (counts i))
+    where
+      rest : List FullRecord
+      rest = recordsAmong b counts (i + 1) n
 
-  pub swept-another : {n : ℕ} {v : Level} {o : Bool} → t ≡ true → o ≡ (eqb (recordOf s .«record_type») type && eqb (recordOf s .direction) direction) → o ≡ false → Holds (levelAmong (countedRecords b counted) type direction) m v n → Holds (levelAmong (sweptRecords b s counted t) type direction) m v n
-  unfolding sweptRecords levelAmong levelOf pick
-  swept-another y e f p = rw y (holds-by p (λ k. rw (sym e ∙ f)))
+      by-case : (t : Bool) → orElse (laneLevel (slotLane b i t direction) (pairOf (slotAt b i) false) type m) (levelAmong rest type direction m) ≡ levelAmong (pick t (record { fields = recordAt b i; parts = partsIn (slotAt b i) } ∷ rest) rest) type direction m
+      by-case true =
+          ap (λ (v : Level). orElse v (levelAmong rest type direction m))
+          (lane-level (eqb (recordAt b i .direction) direction) (recordAt b i) (partsIn (slotAt b i)) _ (storedCount (slotAt b i)) type direction m refl
+          (slot-pairs (slotAt b i) 0 (storedCount (slotAt b i)) m (recordAt b i .period .start)))
+      by-case false = ap (λ (v : Level). orElse v (levelAmong rest type direction m)) (lane-silent (recordAt b i) _ (storedCount (slotAt b i)) type m)
 
-  pub swept-without : {n : ℕ} {v : Level} → t ≡ false → Holds (levelAmong (countedRecords b counted) type direction) m v n → Holds (levelAmong (sweptRecords b s counted t) type direction) m v n
-  unfolding sweptRecords pick
-  swept-without e p = rw e p
+  pub lanes-level : levelAmongLanes b s lanes type 0 9 m ≡ levelAmong (sweptRecords b s (swept .counted) (swept .«with_report»)) type direction m
+  unfolding levelAmongLanes levelAmong sweptRecords laneAt reportLane laneBytes pick series
+  lanes-level = rw (slots-lanes 0 8 (omega arith)) (by-case (swept .«with_report»)) where
+    slots : List FullRecord
+    slots = recordsAmong b counts 0 8
 
--- three levels together
-abbrev as-levels : Level → Level → Level → Levels
-as-levels x y z = record { forced = x; positive = y; negative = z }
-
-abbrev apply : (Level → Levels) → Level → Levels
-apply h z = h z
-
-pub three : (ws : List FullRecord) (direction : ℕ) {m n₁ n₂ n₃ n₄ n : ℕ} {f p g : Level} → Holds (levelAmong ws 4 direction) m f n₁ → Holds (levelAmong ws 2 direction) m p n₂ → Holds (levelAmong ws 3 direction) m g n₃ → Sooner n₁ n₂ n₄ → Sooner n₄ n₃ n → Holds (levelsAt ws direction) m (record { forced = f; positive = p; negative = g }) n
-unfolding levelsAt
-three ws direction a b c s t = holds-by (holds-two apply (holds-two as-levels a b s) c t) (λ k. refl)
+    by-case : (t : Bool) → orElse (laneLevel (reportLane s t direction) (pairOf s true) type m) (levelAmong slots type direction m) ≡ levelAmong (pick t (record { fields = recordOf s; parts = partsOf s } ∷ slots) slots) type direction m
+    by-case true =
+        ap (λ (v : Level). orElse v (levelAmong slots type direction m))
+        (lane-level (eqb (recordOf s .direction) direction) (recordOf s) (partsOf s) _ (partCount s) type direction m refl (report-pairs s 0 (partCount s) m))
+    by-case false = ap (λ (v : Level). orElse v (levelAmong slots type direction m)) (lane-silent (recordOf s) _ (partCount s) type m)

@@ -1,4 +1,5 @@
 pub mod Spans
 pub mod Parts
 pub mod Counted
+pub mod Lanes
 pub mod Turns

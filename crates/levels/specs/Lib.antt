@@ -1,4 +1,5 @@
-pub mod Points
+pub mod Pairs
 pub mod Stays
 pub mod Counted
+pub mod Lanes
 pub mod Result

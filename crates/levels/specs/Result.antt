@@ -4,7 +4,7 @@ use mathlib.Core.List.{List}
 use mathlib.Core.Bool.{Bool, _&&_, _||_}
 use Rattle.rules.specs.declared.Levels.{Levels}
 use Rattle.rules.specs.declared.PowerRange.{PowerRange}
-use Rattle.rules.specs.Minutes.{FullRecord, levelsFit, aboveMax, belowMin, levelsEvery, levelsSome}
+use Rattle.rules.specs.Minutes.{FullRecord, everyMinute, someMinute, levelsFit, aboveMax, belowMin, levelsEvery, levelsSome}
 use Rattle.levels.specs.declared.SweepResult.{SweepResult}
 
 abbrev pub withSpan : SweepResult → ℕ → PowerRange → Levels → SweepResult
@@ -14,6 +14,15 @@ withSpan g kind range l = record {
   below = g .below || belowMin kind range l;
 }
 
+-- of the levels that f gives for each minute
+unfoldable pub foundIn : (ℕ → Levels) → ℕ → PowerRange → ℕ → ℕ → SweepResult
+foundIn f kind range start end = record {
+  fits = everyMinute start end (λ m. levelsFit kind range (f m));
+  above = someMinute start end (λ m. aboveMax kind range (f m));
+  below = someMinute start end (λ m. belowMin kind range (f m));
+}
+
+-- of records of one direction
 unfoldable pub sweepResult : ℕ → PowerRange → List FullRecord → ℕ → ℕ → ℕ → SweepResult
 sweepResult kind range ws direction start end = record {
   fits = levelsEvery (levelsFit kind range) ws direction start end;

@@ -1,10 +1,8 @@
--- What a step promises: a level in a minute, and that it stays up to a later one, which is free.
+-- What a step promises: a value in a minute, and that it stays up to a later one, which is free.
 use Prim.Native.Nat.{ℕ, _<_, _≤_}
 use mathlib.Core.Path.{_≡_}
 use Rattle.rules.specs.declared.Level.{Level}
-use Rattle.rules.specs.declared.Levels.{Levels}
 use Rattle.levels.specs.declared.LevelSpan.{LevelSpan}
-use Rattle.levels.specs.declared.LevelsSpan.{LevelsSpan}
 
 -- v is f's value at m, and at every minute from m up to n; n is later than m
 pub record Holds {A : Type 0} (f : ℕ → A) (m : ℕ) (v : A) (n : ℕ) : Type 0 where
@@ -13,6 +11,3 @@ pub record Holds {A : Type 0} (f : ℕ → A) (m : ℕ) (v : A) (n : ℕ) : Type
 
 abbrev pub Stays : (ℕ → Level) → ℕ → LevelSpan → Type 0
 Stays f m r = Holds f m (r .level) (r .until .0)
-
-abbrev pub Stood : (ℕ → Levels) → ℕ → LevelsSpan → Type 0
-Stood f m r = Holds f m (r .levels) (r .until .0)

@@ -1,9 +1,9 @@
-// Rule 20 in every minute of a reported record, by one turn for each change of a level.
+// Rule 20 in every minute of a period, by one turn for each change of a level.
+use block::Pair;
 use quantities::Kilowatt;
 use quantities::Minute;
-use records::FORCED_WORK;
+use quantities::Period;
 use records::M1;
-use records::NEGATIVE_DERATING;
 use records::POSITIVE_DERATING;
 use records::W1;
 use records::Z1;
@@ -12,24 +12,14 @@ use rules::Levels;
 use rules::PowerRange;
 use rules::Record;
 ghost use mathlib.Core.Path.{_≡_};
-ghost use mathlib.Core.Bool.{true, _&&_};
 ghost use Prim.Native.Nat.{_<_};
-ghost use lib.Dec.{eqb};
 ghost use Rattle.fields.specs.Lists.{series};
-ghost use Rattle.report.specs.Report.{headOf};
-ghost use Rattle.rules.specs.Minutes.{noLevel, levelOf, orElse, levelAmong, levelsAt, fitsW1M1, fitsZ1, levelsFit, aboveMax, belowMin};
-ghost use Rattle.rules.specs.Questions.{recordOf, recordAt};
-ghost use Rattle.levels.specs.Points.{pointAt, levelAmongPoints, levelOfPoints};
 ghost use Rattle.quantities.specs.Quantities.{earlierOf};
-ghost use Rattle.levels.specs.Counted.{reportRecord, slotRecord, countedRecords, sweptRecords};
-ghost use Rattle.levels.specs.Result.{withSpan, sweepResult};
-ghost use Rattle.levels.specs.Stays.{Stays, Stood};
-
-// Where a part ends, and its power.
-pub struct Point {
-    pub end: Minute,
-    pub power: Kilowatt,
-}
+ghost use Rattle.rules.specs.Minutes.{noLevel, orElse, fitsW1M1, fitsZ1, levelsFit, aboveMax, belowMin};
+ghost use Rattle.levels.specs.Pairs.{pairOf, levelAmongPairs, Passed};
+ghost use Rattle.levels.specs.Counted.{sweptRecords};
+ghost use Rattle.levels.specs.Lanes.{noLane, laneOf, reportLane, slotLane, laneAt, lanePair, laneLevel, laneLevels, spanOf, levelsOf, Stepped, Placed, Turned};
+ghost use Rattle.levels.specs.Result.{withSpan, foundIn, sweepResult};
 
 // A level, and a later minute up to which it stays.
 pub struct LevelSpan {
@@ -48,17 +38,31 @@ pub struct Swept {
     pub with_report: bool,
 }
 
+// A record as a sweep reads it: its type (0: it does not count), its period and how many pairs it has. Lane 0 is the
+// report's, lane i + 1 that of slot i.
+pub struct Lane {
+    pub record_type: u8,
+    pub period: Period,
+    pub count: u16,
+}
+
+// A lane's level, and its place: the pairs before it have ended.
+pub struct LaneSpan {
+    pub span: LevelSpan,
+    pub place: u16,
+}
+
+// The levels of positive deratings, negative deratings and forced work in a minute, and the lanes' places.
+pub struct Turn {
+    pub spans: [LevelSpan; 3],
+    pub places: [u16; 9],
+}
+
 // Question 17, and warnings 2 and 4.
 pub struct SweepResult {
     pub fits: bool,
     pub above: bool,
     pub below: bool,
-}
-
-// The parts of a report, or the pairs of a slot.
-pub struct PointList {
-    pub in_report: bool,
-    pub count: u16,
 }
 
 // No level, up to a minute.
@@ -72,130 +76,137 @@ fn none_until(until: Minute) -> LevelSpan
     LevelSpan { level, until }
 }
 
-// Where point j ends.
-fn end_at(s: &[u8], in_report: bool, j: u16) -> Minute
-    ensures { λ r. ⌜ r ≡ pointAt (now (s .entry)) «in_report» j .end ⌝ }
+// Part j of a report, or pair j of a slot.
+fn pair_of(s: &[u8], in_report: bool, j: u16) -> Pair
+    ensures { λ r. ⌜ r ≡ pairOf (now (s .entry)) «in_report» j ⌝ }
 {
     if in_report {
-        quantities::minute_at(s, 56 + 16 * (j as usize))
-    } else {
-        quantities::minute_at(s, 88 + 8 * (j as usize))
+        let part = report::part_at(s, j);
+        let end = part.period.end;
+        let power = quantities::size_of(part.power);
+        return Pair { end, power };
     }
+    block::pair_at(s, j)
 }
 
-fn point_at(s: &[u8], in_report: bool, j: u16) -> Point
-    ensures { λ r. ⌜ r ≡ pointAt (now (s .entry)) «in_report» j ⌝ }
-{
-    if in_report {
-        let at = 56 + 16 * (j as usize);
-        let end = quantities::minute_at(s, at);
-        let power = quantities::size_of(quantities::signed_kilowatt_at(s, at + 4));
-        Point { end, power }
-    } else {
-        let at = 88 + 8 * (j as usize);
-        let end = quantities::minute_at(s, at);
-        let power = quantities::kilowatt_at(s, at + 4);
-        Point { end, power }
-    }
-}
-
-// The power of the first point that ends after the minute; it stays up to that end.
-fn step_among(s: &[u8], list: PointList, m: Minute) -> LevelSpan
+// The power of the first pair that ends after the minute; it stays up to that end.
+fn step_among(s: &[u8], in_report: bool, count: u16, place: u16, m: Minute) -> LaneSpan
     requires { ⌜ m .0 < 4294967295 ⌝ }
-    ensures { λ r. ⌜ Stays (levelAmongPoints (series (pointAt (now (s .entry)) (list .«in_report»)) 0 (list .count))) (m .0) r ⌝ }
+    requires { ⌜ Passed (pairOf (now s) «in_report») count place (m .0) ⌝ }
+    ensures { λ r. ⌜ Stepped (pairOf (now (s .entry)) «in_report») count (m .0) (levelAmongPairs (series (pairOf (now (s .entry)) «in_report») 0 count)) r ⌝ }
 {
-    let count = list.count;
-    for j in 0..count {
-        let until = end_at(s, list.in_report, j);
+    for j in place..count {
+        let pair = pair_of(s, in_report, j);
+        let until = pair.end;
         if m.0 < until.0 {
-            let power = point_at(s, list.in_report, j).power;
+            let power = pair.power;
             let level = Level { there: true, power };
-            return LevelSpan { level, until };
+            let span = LevelSpan { level, until };
+            return LaneSpan { span, place: j };
         }
     }
-    none_until(Minute(4294967295))
+    let span = none_until(Minute(4294967295));
+    LaneSpan { span, place: count }
 }
 
-fn is_of(r: Record, record_type: u8, direction: u8) -> bool
-    ensures { λ b. ⌜ b ≡ (eqb (r .«record_type») «record_type» && eqb (r .direction) direction) ⌝ }
-{
-    (r.record_type == record_type) & (r.direction == direction)
-}
-
-// The level of a record of this type and direction whose points lie in `s`.
-fn record_step(
-    s: &[u8],
-    r: Record,
-    list: PointList,
-    record_type: u8,
-    direction: u8,
-    m: Minute,
-) -> LevelSpan
+// The level of a lane whose pairs lie in `s`.
+fn level_in(s: &[u8], in_report: bool, lane: Lane, place: u16, m: Minute) -> LaneSpan
     requires { ⌜ m .0 < 4294967295 ⌝ }
-    requires { ⌜ (eqb (r .«record_type») «record_type» && eqb (r .direction) direction) ≡ true ⌝ }
-    ensures { λ b. ⌜ Stays (levelOfPoints r (series (pointAt (now (s .entry)) (list .«in_report»)) 0 (list .count)) «record_type» direction) (m .0) b ⌝ }
+    requires { ⌜ Passed (pairOf (now s) «in_report») (lane .count) place (m .0) ⌝ }
+    ensures { λ r. ⌜ Stepped (pairOf (now (s .entry)) «in_report») (lane .count) (m .0) (laneLevel lane (pairOf (now (s .entry)) «in_report») (lane .«record_type»)) r ⌝ }
 {
-    let start = r.period.start;
-    let end = r.period.end;
+    let start = lane.period.start;
+    let end = lane.period.end;
     if m.0 < start.0 {
-        return none_until(start);
+        let span = none_until(start);
+        return LaneSpan { span, place };
     }
     if end.0 <= m.0 {
-        return none_until(Minute(4294967295));
+        let span = none_until(Minute(4294967295));
+        return LaneSpan { span, place };
     }
-    let among = step_among(s, list, m);
-    let level = among.level;
-    let until = quantities::earlier(among.until, end);
-    LevelSpan { level, until }
+    let among = step_among(s, in_report, lane.count, place, m);
+    let level = among.span.level;
+    let until = quantities::earlier(among.span.until, end);
+    let span = LevelSpan { level, until };
+    LaneSpan {
+        span,
+        place: among.place,
+    }
 }
 
-fn report_is_of(report: &[u8], record_type: u8, direction: u8) -> bool
-    ensures { λ b. ⌜ b ≡ (eqb (recordOf (now (report .entry)) .«record_type») «record_type» && eqb (recordOf (now (report .entry)) .direction) direction) ⌝ }
-{
-    is_of(records::record_of(report), record_type, direction)
-}
-
-fn slot_is_of(b: &[u8], i: u8, record_type: u8, direction: u8) -> bool
-    ensures { λ t. ⌜ t ≡ (eqb (recordAt (now (b .entry)) i .«record_type») «record_type» && eqb (recordAt (now (b .entry)) i .direction) direction) ⌝ }
-{
-    is_of(
-        block::record_in(block::slot_at(b, i)),
-        record_type,
-        direction,
-    )
-}
-
-fn report_step(report: &[u8], record_type: u8, direction: u8, m: Minute) -> LevelSpan
+// The level of lane i.
+fn step_lane(b: &[u8], report: &[u8], i: u8, lane: Lane, place: u16, m: Minute) -> LaneSpan
     requires { ⌜ m .0 < 4294967295 ⌝ }
-    requires { ⌜ (eqb (recordOf (now report) .«record_type») «record_type» && eqb (recordOf (now report) .direction) direction) ≡ true ⌝ }
-    ensures { λ r. ⌜ Stays (levelOf (reportRecord (now (report .entry))) «record_type» direction) (m .0) r ⌝ }
+    requires { ⌜ Passed (lanePair (now b) (now report) i) (lane .count) place (m .0) ⌝ }
+    ensures { λ r. ⌜ Stepped (lanePair (now (b .entry)) (now (report .entry)) i) (lane .count) (m .0) (laneLevel lane (lanePair (now (b .entry)) (now (report .entry)) i) (lane .«record_type»)) r ⌝ }
 {
+    if i == 0 {
+        return level_in(report, true, lane, place, m);
+    }
+    level_in(block::slot_at(b, i - 1), false, lane, place, m)
+}
+
+fn no_lane() -> Lane
+    ensures { λ l. ⌜ l ≡ noLane ⌝ }
+{
+    let start = Minute(0);
+    let end = Minute(0);
+    let period = Period { start, end };
+    Lane {
+        record_type: 0,
+        period,
+        count: 0,
+    }
+}
+
+fn lane_of(counts: bool, r: Record, count: u16) -> Lane
+    ensures { λ l. ⌜ l ≡ laneOf counts r count ⌝ }
+{
+    if counts {
+        let period = r.period;
+        return Lane {
+            record_type: r.record_type,
+            period,
+            count,
+        };
+    }
+    no_lane()
+}
+
+fn report_lane(report: &[u8], with_report: bool, direction: u8) -> Lane
+    ensures { λ r. ⌜ r ≡ reportLane (now (report .entry)) «with_report» direction ⌝ }
+{
+    if !with_report {
+        return no_lane();
+    }
     let h = report::head_of(report);
-    let list = PointList {
-        in_report: true,
-        count: h.part_count,
-    };
-    record_step(
-        report,
-        records::record_of(report),
-        list,
-        record_type,
-        direction,
-        m,
-    )
+    let r = records::record_by(h);
+    lane_of(r.direction == direction, r, h.part_count)
 }
 
-fn slot_step(b: &[u8], i: u8, record_type: u8, direction: u8, m: Minute) -> LevelSpan
-    requires { ⌜ m .0 < 4294967295 ⌝ }
-    requires { ⌜ (eqb (recordAt (now b) i .«record_type») «record_type» && eqb (recordAt (now b) i .direction) direction) ≡ true ⌝ }
-    ensures { λ r. ⌜ Stays (levelOf (slotRecord (now (b .entry)) i) «record_type» direction) (m .0) r ⌝ }
+fn slot_lane(b: &[u8], i: u8, counted: bool, direction: u8) -> Lane
+    ensures { λ r. ⌜ r ≡ slotLane (now (b .entry)) i counted direction ⌝ }
 {
+    if !counted {
+        return no_lane();
+    }
     let z = block::slot_at(b, i);
-    let list = PointList {
-        in_report: false,
-        count: block::stored_count(z),
-    };
-    record_step(z, block::record_in(z), list, record_type, direction, m)
+    let r = block::record_in(z);
+    lane_of(r.direction == direction, r, block::stored_count(z))
+}
+
+// The lanes of one direction.
+fn lanes_of(b: &[u8], report: &[u8], swept: Swept, direction: u8) -> [Lane; 9]
+    ensures { λ r. ⌜ r ≡ series (laneAt (now (b .entry)) (now (report .entry)) swept direction) 0 9 ⌝ }
+{
+    let first = report_lane(report, swept.with_report, direction);
+    let mut lanes = [first; 9];
+    for i in 0..8u8 {
+        let lane = slot_lane(b, i, swept.counted[i as usize], direction);
+        lanes[i as usize + 1] = lane;
+    }
+    lanes
 }
 
 // The first of two levels that is there, up to the sooner change of the two.
@@ -207,63 +218,47 @@ fn first_of(a: LevelSpan, b: LevelSpan) -> LevelSpan
     LevelSpan { level, until }
 }
 
-// The level of the slots that are counted, from the last to the first.
-fn slots_step(b: &[u8], counted: [bool; 8], record_type: u8, direction: u8, m: Minute) -> LevelSpan
-    requires { ⌜ m .0 < 4294967295 ⌝ }
-    ensures { λ r. ⌜ Stays (levelAmong (countedRecords (now (b .entry)) counted) «record_type» direction) (m .0) r ⌝ }
+// The place of a type's level among the three, or 3.
+fn span_of(record_type: u8) -> usize
+    ensures { λ r. ⌜ r ≡ spanOf «record_type» ⌝ }
 {
-    let mut r = none_until(Minute(4294967295));
-    let mut i: u8 = 8;
+    if records::is_levelled(record_type) {
+        (record_type - POSITIVE_DERATING) as usize
+    } else {
+        3
+    }
+}
+
+// The three levels in a minute, from the last lane to the first, each looked up from the lane's place on.
+fn step_lanes(b: &[u8], report: &[u8], lanes: [Lane; 9], places: [u16; 9], m: Minute) -> Turn
+    requires { ⌜ m .0 < 4294967295 ⌝ }
+    requires { ⌜ Placed (now b) (now report) lanes places (m .0) ⌝ }
+    ensures { λ r. ⌜ Turned (now (b .entry)) (now (report .entry)) lanes (m .0) r ⌝ }
+{
+    let none = none_until(Minute(4294967295));
+    let mut spans = [none; 3];
+    let mut places = places;
+    let mut i: u8 = 9;
     while 0 < i {
         i -= 1;
-        if counted[i as usize] {
-            if slot_is_of(b, i, record_type, direction) {
-                let next = slot_step(b, i, record_type, direction, m);
-                r = first_of(next, r);
-            }
+        let lane = lanes[i as usize];
+        let t = span_of(lane.record_type);
+        if t < 3 {
+            let step = step_lane(b, report, i, lane, places[i as usize], m);
+            places[i as usize] = step.place;
+            let first = first_of(step.span, spans[t]);
+            spans[t] = first;
         }
     }
-    r
+    Turn { spans, places }
 }
 
-// The level of a type in a minute, and how long it stays: the report first, then the slots.
-fn level_at(
-    b: &[u8],
-    report: &[u8],
-    swept: Swept,
-    record_type: u8,
-    direction: u8,
-    m: Minute,
-) -> LevelSpan
-    requires { ⌜ m .0 < 4294967295 ⌝ }
-    ensures { λ r. ⌜ Stays (levelAmong (sweptRecords (now (b .entry)) (now (report .entry)) (swept .counted) (swept .«with_report»)) «record_type» direction) (m .0) r ⌝ }
+fn levels_of(spans: [LevelSpan; 3]) -> LevelsSpan
+    ensures { λ r. ⌜ r ≡ levelsOf spans ⌝ }
 {
-    let counted = swept.counted;
-    let slots = slots_step(b, counted, record_type, direction, m);
-    if !swept.with_report {
-        return slots;
-    }
-    if !report_is_of(report, record_type, direction) {
-        return slots;
-    }
-    first_of(report_step(report, record_type, direction, m), slots)
-}
-
-// The three levels in a minute, after that of forced work.
-fn levels_at(
-    b: &[u8],
-    report: &[u8],
-    swept: Swept,
-    direction: u8,
-    m: Minute,
-    f: LevelSpan,
-) -> LevelsSpan
-    requires { ⌜ m .0 < 4294967295 ⌝ }
-    requires { ⌜ Stays (levelAmong (sweptRecords (now b) (now report) (swept .counted) (swept .«with_report»)) 4 direction) (m .0) f ⌝ }
-    ensures { λ r. ⌜ Stood (levelsAt (sweptRecords (now (b .entry)) (now (report .entry)) (swept .counted) (swept .«with_report»)) direction) (m .0) r ⌝ }
-{
-    let p = level_at(b, report, swept, POSITIVE_DERATING, direction, m);
-    let n = level_at(b, report, swept, NEGATIVE_DERATING, direction, m);
+    let p = spans[0];
+    let n = spans[1];
+    let f = spans[2];
     let forced = f.level;
     let positive = p.level;
     let negative = n.level;
@@ -337,24 +332,33 @@ fn add_span(g: SweepResult, kind: u8, range: PowerRange, l: Levels) -> SweepResu
     }
 }
 
-// Question 17 and warnings 2 and 4 in every minute of a period: a turn for each change of a level, none for a minute.
-// Without forced work nothing is found, so the deratings are not looked up.
-pub fn sweep(b: &[u8], report: &[u8], swept: Swept, kind: u8, range: PowerRange) -> SweepResult
-    ensures { λ r. ⌜ r ≡ sweepResult kind range (sweptRecords (now (b .entry)) (now (report .entry)) (swept .counted) (swept .«with_report»)) (headOf (now (report .entry)) .direction) (headOf (now (report .entry)) .period .start .0) (headOf (now (report .entry)) .period .end .0) ⌝ }
+// In every minute of a period, a turn for each change of a level, none for a minute. Without forced work nothing is found,
+// so changes of deratings are passed over.
+fn sweep_lanes(
+    b: &[u8],
+    report: &[u8],
+    lanes: [Lane; 9],
+    period: Period,
+    kind: u8,
+    range: PowerRange,
+) -> SweepResult
+    ensures { λ r. ⌜ r ≡ foundIn (laneLevels (now (b .entry)) (now (report .entry)) lanes) kind range (period .start .0) (period .end .0) ⌝ }
 {
-    let h = report::head_of(report);
-    let direction = h.direction;
-    let end = h.period.end;
-    let mut m = h.period.start;
+    let end = period.end;
+    let mut places = [0u16; 9];
+    let mut m = period.start;
     let mut g = SweepResult {
         fits: true,
         above: false,
         below: false,
     };
     while m.0 < end.0 {
-        let forced = level_at(b, report, swept, FORCED_WORK, direction, m);
+        let turn = step_lanes(b, report, lanes, places, m);
+        places = turn.places;
+        let spans = turn.spans;
+        let forced = spans[2];
         if forced.level.there {
-            let span = levels_at(b, report, swept, direction, m, forced);
+            let span = levels_of(spans);
             let levels = span.levels;
             g = add_span(g, kind, range, levels);
             m = quantities::earlier(span.until, end);
@@ -363,4 +367,26 @@ pub fn sweep(b: &[u8], report: &[u8], swept: Swept, kind: u8, range: PowerRange)
         }
     }
     g
+}
+
+// Question 17 and warnings 2 and 4 in every minute of a period, of the records of one direction.
+pub fn sweep(
+    b: &[u8],
+    report: &[u8],
+    swept: Swept,
+    direction: u8,
+    period: Period,
+    kind: u8,
+    range: PowerRange,
+) -> SweepResult
+    ensures { λ r. ⌜ r ≡ sweepResult kind range (sweptRecords (now (b .entry)) (now (report .entry)) (swept .counted) (swept .«with_report»)) direction (period .start .0) (period .end .0) ⌝ }
+{
+    sweep_lanes(
+        b,
+        report,
+        lanes_of(b, report, swept, direction),
+        period,
+        kind,
+        range,
+    )
 }

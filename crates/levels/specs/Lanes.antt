@@ -1,0 +1,106 @@
+-- The records of a sweep as lanes: lane 0 is the report's, lane i + 1 that of slot i.
+use Prim.Native.Nat.{ℕ, zero, suc, _+_, _-_, _<_}
+use mathlib.Core.List.{List}
+use mathlib.Core.Bool.{Bool, false, _&&_}
+use lib.Dec.{leb, ltb, eqb}
+use lib.ListN.{getD}
+use Rattle.fields.specs.Lists.{pick, series}
+use Rattle.quantities.specs.Quantities.{earlierOf}
+use Rattle.report.specs.Report.{partCount}
+use Rattle.rules.specs.declared.Level.{Level}
+use Rattle.rules.specs.declared.Levels.{Levels}
+use Rattle.rules.specs.declared.Record.{Record}
+use Rattle.rules.specs.Codes.{positiveDerating, negativeDerating, forcedWork, isLevelled}
+use Rattle.rules.specs.Block.{slotAt, storedCount}
+use Rattle.rules.specs.Questions.{recordOf, recordAt}
+use Rattle.rules.specs.Minutes.{noLevel, orElse}
+use Rattle.block.specs.declared.Pair.{Pair}
+use Rattle.levels.specs.declared.Lane.{Lane}
+use Rattle.levels.specs.declared.LaneSpan.{LaneSpan}
+use Rattle.levels.specs.declared.LevelSpan.{LevelSpan}
+use Rattle.levels.specs.declared.LevelsSpan.{LevelsSpan}
+use Rattle.levels.specs.declared.Swept.{Swept}
+use Rattle.levels.specs.declared.Turn.{Turn}
+use Rattle.levels.specs.Pairs.{pairOf, levelAmongPairs, Passed}
+use Rattle.levels.specs.Stays.{Stays}
+
+-- a lane that holds no minute
+abbrev pub noLane : Lane
+noLane = record { «record_type» = 0; period = record { start = record { 0 = 0 }; end = record { 0 = 0 } }; count = 0 }
+
+unfoldable pub laneOf : Bool → Record → ℕ → Lane
+laneOf counts r k = pick counts (record { «record_type» = r .«record_type»; period = r .period; count = k }) noLane
+
+unfoldable pub reportLane : List ℕ → Bool → ℕ → Lane
+reportLane s with-report direction = laneOf (with-report && eqb (recordOf s .direction) direction) (recordOf s) (partCount s)
+
+unfoldable pub slotLane : List ℕ → ℕ → Bool → ℕ → Lane
+slotLane b i counted direction =
+    laneOf (counted && eqb (recordAt b i .direction) direction) (recordAt b i) (storedCount (slotAt b i))
+
+unfoldable pub laneAt : List ℕ → List ℕ → Swept → ℕ → ℕ → Lane
+laneAt b s swept direction zero = reportLane s (swept .«with_report») direction
+laneAt b s swept direction (suc i) = slotLane b i (getD (swept .counted) i false) direction
+
+-- the bytes that have a lane's pairs, and its pairs
+unfoldable pub laneBytes : List ℕ → List ℕ → ℕ → List ℕ
+laneBytes b s i = pick (eqb i 0) s (slotAt b (i - 1))
+
+abbrev pub lanePair : List ℕ → List ℕ → ℕ → ℕ → Pair
+lanePair b s i = pairOf (laneBytes b s i) (eqb i 0)
+
+-- a lane's level in minute m, where it is of this type and holds the minute
+unfoldable pub laneLevel : Lane → (ℕ → Pair) → ℕ → ℕ → Level
+laneLevel lane f type m =
+    pick (eqb (lane .«record_type») type && leb (lane .period .start .0) m && ltb m (lane .period .end .0))
+    (levelAmongPairs (series f 0 (lane .count)) m)
+    noLevel
+
+-- the first level of a type among the lanes i, i + 1, .. , n of them
+unfoldable pub levelAmongLanes : List ℕ → List ℕ → List Lane → ℕ → ℕ → ℕ → ℕ → Level
+levelAmongLanes b s lanes type i zero m = noLevel
+levelAmongLanes b s lanes type i (suc n) m =
+    orElse (laneLevel (getD lanes i noLane) (lanePair b s i) type m) (levelAmongLanes b s lanes type (i + 1) n m)
+
+-- the three levels of all lanes
+unfoldable pub laneLevels : List ℕ → List ℕ → List Lane → ℕ → Levels
+laneLevels b s lanes m = record {
+  forced = levelAmongLanes b s lanes forcedWork 0 9 m;
+  positive = levelAmongLanes b s lanes positiveDerating 0 9 m;
+  negative = levelAmongLanes b s lanes negativeDerating 0 9 m;
+}
+
+-- what a step in a lane of n pairs promises of its level and its place
+pub record Stepped (f : ℕ → Pair) (n m : ℕ) (level : ℕ → Level) (r : LaneSpan) : Type 0 where
+  pub stays : Stays level m (r .span)
+  pub passed : Passed f n (r .place) m
+
+-- in every lane the pairs before its place have ended
+pub record Placed (b s : List ℕ) (lanes : List Lane) (places : List ℕ) (m : ℕ) : Type 0 where
+  pub at : (i : ℕ) → i < 9 → Passed (lanePair b s i) (getD lanes i noLane .count) (getD places i 0) m
+
+-- the place of a type's level among those of types 2, 3 and 4, or 3
+unfoldable pub spanOf : ℕ → ℕ
+spanOf type = pick (isLevelled type) (type - positiveDerating) 3
+
+abbrev pub noSpan : LevelSpan
+noSpan = record { level = noLevel; until = record { 0 = 0 } }
+
+-- the levels of types 2, 3 and 4 among the lanes i, i + 1, .. , n of them
+pub record Spanned (b s : List ℕ) (lanes : List Lane) (i n m : ℕ) (spans : List LevelSpan) : Type 0 where
+  pub of : (t : ℕ) → t < 3 → Stays (levelAmongLanes b s lanes (positiveDerating + t) i n) m (getD spans t noSpan)
+
+pub record Turned (b s : List ℕ) (lanes : List Lane) (m : ℕ) (r : Turn) : Type 0 where
+  pub spanned : Spanned b s lanes 0 9 m (r .spans)
+  pub placed : Placed b s lanes (r .places) m
+
+-- the three levels, up to the first change of one
+abbrev pub levelsOf : List LevelSpan → LevelsSpan
+levelsOf spans = record {
+  levels = record {
+    forced = getD spans 2 noSpan .level;
+    positive = getD spans 0 noSpan .level;
+    negative = getD spans 1 noSpan .level;
+  };
+  until = earlierOf (earlierOf (getD spans 2 noSpan .until) (getD spans 0 noSpan .until)) (getD spans 1 noSpan .until);
+}
