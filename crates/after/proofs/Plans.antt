@@ -36,7 +36,7 @@ module _ (b s : List ℕ) (p : Passed b s) (changes : changesState b s ≡ true)
 
   -- a withdrawal is no event, and begins nothing
   no-withdrawal : (t : Bool) → isWithdrawal s ≡ t → isWithdrawal s ≡ false
-  unfolding changesState begins
+  unfolding changesState
   no-withdrawal false w = w
   no-withdrawal true w =
       let way = and-right (eqb (unitHead b .kind) W1) (isEvent s || begins b s) changes in
@@ -45,7 +45,7 @@ module _ (b s : List ℕ) (p : Passed b s) (changes : changesState b s ≡ true)
       absurd (false≢true (rw (eqb-true (headOf s .operation) withdraw w) at operation))
 
   row-moves : rowPlanned b s ≡ rowAfter b s
-  unfolding question18 pick
+  unfolding pick
   row-moves =
       let asked : hasTransition (unitHead b .row) (headOf s) ≡ true = rw (no-withdrawal (isWithdrawal s) refl, changes) at (p .q18) in
       rw asked

@@ -7,22 +7,23 @@ use native.Mathlib.Omega.{arith}
 use lib.Dec.{leb, ltb, eqb}
 use lib.ListN.{length, take, drop, length-drop}
 use lib.Seq.{length-take-le}
-use borrow.Author.Tests.{eq-eqb, ne-eqb, not-true, not-false}
-use Rattle.fields.specs.Lists.{pick, and-each, every, part}
+use borrow.Author.Tests.{eqb-true, eq-eqb, ne-eqb, not-true, not-false}
+use Rattle.fields.specs.Lists.{pick, and-each, every, part, series}
 use Rattle.fields.proofs.Bools.{every-true, range-true}
 use Rattle.fields.proofs.Slices.{part-lent, lent-back}
 use Rattle.report.specs.declared.Head.{Head}
 use Rattle.report.specs.Report.{headOf, partCount, whole}
 use Rattle.rules.specs.declared.Answer.{Answer}
-use Rattle.rules.specs.After.{blockAfter, someSlot, warnings}
-use Rattle.rules.specs.Questions.{leaves}
+use Rattle.rules.specs.After.{slotWritten, blockAfter, someSlot, warnings}
+use Rattle.rules.specs.Questions.{changesState, leaves, stays}
 use Rattle.rules.specs.Judge.{Verdict, refusal, refusalNumber, judge}
 use Rattle.rules.specs.declared.UnitHead.{UnitHead}
-use Rattle.rules.specs.Block.{blockSize, unitHead}
+use Rattle.rules.specs.Block.{slotCount, blockSize, unitHead}
 use Rattle.rules.specs.Whole.{registerWhole}
 use Rattle.rules.specs.Desk.{blockAt, withBlock, question3, answerTo}
-use Rattle.judge.specs.declared.Outcome.{Outcome}
-use Rattle.judge.specs.Warned.{outcomeOf, warningsOn}
+use Rattle.judge.specs.declared.Decision.{Decision}
+use Rattle.judge.specs.Decided.{refusedDecision, decisionOf}
+use Rattle.judge.specs.Warned.{warningsOn}
 use Rattle.judge.proofs.Warnings.{warnings-same}
 use Rattle.after.specs.declared.Plan.{Plan}
 use Rattle.after.specs.Plan.{planApplied}
@@ -32,21 +33,40 @@ use Rattle.after.proofs.Plans.{plan-after}
 abbrev pub Is : Verdict → Answer → List ℕ → Type 0
 Is step a left = (a ≡ step .answer) × (left ≡ step .after)
 
-module _ (b s : List ℕ) {n : ℕ} (asked : n ≡ refusalNumber b s) where
-  pub refuses : {a : Answer} → (n ≡ 0 → ⊥) → a ≡ refusal n → Is (judge b s) a b
+module _ (b s : List ℕ) {d : Decision} (decided : d ≡ decisionOf b s) where
+  number-is : d .number ≡ refusalNumber b s
+  unfolding decisionOf pick
+  number-is = ap (λ (d : Decision). d .number) decided ∙ by-case (refusalNumber b s) (eqb (refusalNumber b s) 0) refl where
+    by-case : (n : ℕ) (t : Bool) → eqb n 0 ≡ t → pick t (record { number = 0; keep = series (stays b s) 0 slotCount; written = slotWritten b s; changes = changesState b s; left = someSlot (leaves b s) }) (refusedDecision n) .number ≡ n
+    by-case n true e = sym (eqb-true n 0 e)
+    by-case n false e = refl
+
+  pub refuses : {a : Answer} → (d .number ≡ 0 → ⊥) → a ≡ refusal (d .number) → Is (judge b s) a b
   unfolding judge pick
   refuses ne e =
-      let no-zero : eqb (refusalNumber b s) 0 ≡ false = ap (λ (k : ℕ). eqb k 0) (sym asked) ∙ ne-eqb n 0 ne in
-      (e ∙ rw (no-zero, asked), rw no-zero)
+      let no-zero : eqb (refusalNumber b s) 0 ≡ false = ap (λ (k : ℕ). eqb k 0) (sym number-is) ∙ ne-eqb (d .number) 0 ne in
+      (e ∙ rw (no-zero, number-is), rw no-zero)
 
-  module _ (long : length b ≡ blockSize) (few : partCount s ≤ 100) (zero-now : n ≡ 0) {o : Outcome} (decided : o ≡ outcomeOf b s) where
-    pub accepts : {left : List ℕ} {w : ℕ} → left ≡ planApplied b s (record { keep = o .keep; written = o .written; changes = o .changes }) → w ≡ warningsOn left s (o .left) → Is (judge b s) (record { number = 0; warnings = w }) left
+  module _ (long : length b ≡ blockSize) (few : partCount s ≤ 100) (zero-now : d .number ≡ 0) where
+    accepted : eqb (refusalNumber b s) 0 ≡ true
+    accepted = ap (λ (k : ℕ). eqb k 0) (sym number-is) ∙ eq-eqb (d .number) 0 zero-now
+
+    outcome : d ≡ record {
+      number = 0;
+      keep = series (stays b s) 0 slotCount;
+      written = slotWritten b s;
+      changes = changesState b s;
+      left = someSlot (leaves b s);
+    }
+    unfolding decisionOf pick
+    outcome = decided ∙ rw accepted
+
+    pub accepts : {left : List ℕ} {h : Head} {w : ℕ} → left ≡ planApplied b s (record { keep = d .keep; written = d .written; changes = d .changes }) → h ≡ headOf s → w ≡ warningsOn left h (d .left) → Is (judge b s) (record { number = 0; warnings = w }) left
     unfolding judge pick
-    accepts {left} {w} p q =
-        let accepted : eqb (refusalNumber b s) 0 ≡ true = ap (λ (k : ℕ). eqb k 0) (sym asked) ∙ eq-eqb n 0 zero-now in
+    accepts {left} {h} {w} p head q =
         let same : left ≡ blockAfter b s =
-        p ∙ plan-after b s _ long few (ap (λ (o : Outcome). o .keep) decided) (ap (λ (o : Outcome). o .written) decided) (ap (λ (o : Outcome). o .changes) decided) (sym asked ∙ zero-now) in
-        let moved : warningsOn left s (o .left) ≡ warningsOn (blockAfter b s) s (someSlot (leaves b s)) = rw (same, ap (λ (o : Outcome). o .left) decided) in
+        p ∙ plan-after b s _ long few (ap (λ (d : Decision). d .keep) outcome) (ap (λ (d : Decision). d .written) outcome) (ap (λ (d : Decision). d .changes) outcome) (sym number-is ∙ zero-now) in
+        let moved : warningsOn left h (d .left) ≡ warningsOn (blockAfter b s) (headOf s) (someSlot (leaves b s)) = rw (same, head, ap (λ (d : Decision). d .left) outcome) in
         let warned : w ≡ warnings b s = q ∙ moved ∙ warnings-same b s in
         (rw (accepted, warned), same ∙ rw accepted)
 

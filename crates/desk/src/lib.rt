@@ -24,19 +24,18 @@ fn judge_block(b: &mut [u8], report: &[u8]) -> Answer
     ensures { λ r. ⌜ r ≡ judged (now (b .entry)) (now (report .entry)) .answer ⌝ }
     ensures { λ _. ⌜ now (b .exit) ≡ judged (now (b .entry)) (now (report .entry)) .after ⌝ }
 {
-    let number = judge::refusal_number(b, report);
-    if number != 0 {
-        return refusal(number);
+    let decision = judge::decide(b, report);
+    if decision.number != 0 {
+        return refusal(decision.number);
     }
-    let outcome = judge::decide(b, report);
-    let keep = outcome.keep;
+    let keep = decision.keep;
     let plan = Plan {
         keep,
-        written: outcome.written,
-        changes: outcome.changes,
+        written: decision.written,
+        changes: decision.changes,
     };
     after::apply(b, report, plan);
-    let warnings = judge::warnings_on(b, report, outcome.left);
+    let warnings = judge::warnings_on(b, report::head_of(report), decision.left);
     Answer {
         number: 0,
         warnings,

@@ -5,89 +5,141 @@ use mathlib.Core.Bool.{Bool, true, false, not, _&&_, _||_}
 use mathlib.Core.List.{List, [], _∷_}
 use native.Mathlib.Omega.{arith}
 use native.Mathlib.Nat.{zero-add}
-use lib.ListN.{getD}
+use lib.ListN.{length, getD, set, take, replicate, length-set}
 use lib.Dec.{leb, ltb, eqb}
 use Rattle.fields.specs.Lists.{pick, all, series, seek}
 use borrow.Author.Tests.{not-true, not-false}
-use Rattle.fields.proofs.Tests.{series-at, seek-hit, seek-miss, seek-end}
-use Rattle.quantities.specs.declared.Kilowatt.{Kilowatt}
-use Rattle.quantities.specs.Quantities.{sizeOf}
-use Rattle.report.specs.declared.Part.{Part}
+use Rattle.fields.proofs.Slices.{filled-none, filled-more, filled-all}
+use Rattle.fields.proofs.Tests.{Tested, tested-none, tested-more, tested-all, seek-hit, seek-miss, seek-end}
 use Rattle.report.specs.declared.Head.{Head}
-use Rattle.report.specs.Report.{headOf, partsOf}
 use Rattle.rules.specs.declared.PowerRange.{PowerRange}
+use Rattle.rules.specs.declared.Powers.{Powers}
 use Rattle.rules.specs.declared.Record.{Record}
 use Rattle.rules.specs.declared.UnitHead.{UnitHead}
 use Rattle.rules.specs.Codes.{isLevelled}
-use Rattle.rules.specs.Minutes.{FullRecord, recordsAmong, reportedRecords, question17}
+use Rattle.rules.specs.Minutes.{FullRecord, recordsAmong, question17}
 use Rattle.levels.specs.declared.SweepResult.{SweepResult}
-use Rattle.levels.specs.Counted.{reportRecord, sweptRecords}
 use Rattle.levels.specs.Result.{sweepResult}
-use Rattle.rules.specs.Records.{sameIdentifier, clashes, closes}
-use Rattle.rules.specs.Block.{slotCount, slotAt, used, recordIn, unitHead}
-use Rattle.rules.specs.Questions.{recordOf, recordAt, stampOf, live, holder, other, clashClosed, beginsBy, begins, changesState, hasTransition, question18, rangeOf, deratingFits, question16, mustLeave, leaves, stays, freeSlot}
+use Rattle.rules.specs.Records.{sameIdentifier}
+use Rattle.rules.specs.Block.{slotAt, used, recordIn}
+use Rattle.rules.specs.Questions.{recordAt, live, rangeOf}
+use Rattle.judge.specs.declared.SlotAnswers.{SlotAnswers}
+use Rattle.judge.specs.Survey.{holderOf, slotAnswers, answersAt, surveyOf, freeAmong}
 
-pub live-join : (b : List ℕ) (stamp i : ℕ) {z : List ℕ} {u : Bool} {r : Record} → z ≡ slotAt b i → u ≡ used z → r ≡ recordIn z → (u && ltb stamp (r .period .end .0)) ≡ live b stamp i
-unfolding live
-live-join b stamp i e p q = rw (p, q, e)
+-- a slot that was read: free, or with a record
+module _ (b : List ℕ) (i : ℕ) {z : List ℕ} {u : Bool} (read : z ≡ slotAt b i) (asked : u ≡ used z) where
+  not-used : not u ≡ true → used (slotAt b i) ≡ false
+  not-used n = rw (← read) (sym asked ∙ not-true u n)
 
-pub holds-join : (b : List ℕ) (r : Record) (i : ℕ) {l t : Bool} {x : Record} → l ≡ live b (r .stamp .0) i → x ≡ recordAt b i → t ≡ sameIdentifier r x → (l && t) ≡ (live b (r .stamp .0) i && sameIdentifier r (recordAt b i))
-holds-join b r i p e q = rw (p, q, e)
+  is-used : not u ≡ false → used (slotAt b i) ≡ true
+  is-used n = rw (← read) (sym asked ∙ not-false u n)
 
--- slot i is live and has the report's identifier
-abbrev pub isHolder : List ℕ → List ℕ → ℕ → Bool
-isHolder b s i = live b (stampOf s) i && sameIdentifier (recordOf s) (recordAt b i)
+  pub none-held : (r : Record) → not u ≡ true → false ≡ (live b (r .stamp .0) i && sameIdentifier r (recordAt b i))
+  unfolding live
+  none-held r n = rw (not-used n)
 
--- the search for the holder, before slot i
-pub record Sought (b s : List ℕ) (r : Record) (i : ℕ) : Type 0 where
-  pub own : r ≡ recordOf s
+  pub some-held : (r : Record) {x : Record} {t : Bool} → not u ≡ false → x ≡ recordIn z → t ≡ sameIdentifier r x → (ltb (r .stamp .0) (x .period .end .0) && t) ≡ (live b (r .stamp .0) i && sameIdentifier r (recordAt b i))
+  unfolding live
+  some-held r n e q = rw (q, e, read, is-used n)
+
+  pub free-answers : (h : Head) (slot : ℕ) (changes : Bool) → not u ≡ true → record { other = false; closed = true; leaves = false; stays = false } ≡ answersAt b h slot changes i
+  unfolding answersAt slotAnswers live
+  free-answers h slot changes n = rw (not-used n)
+
+  pub used-answers : (h : Head) (slot : ℕ) (changes : Bool) {x : Record} {a : SlotAnswers} → not u ≡ false → x ≡ recordIn z → a ≡ slotAnswers h slot changes (ltb (h .stamp .0) (x .period .end .0)) x i → a ≡ answersAt b h slot changes i
+  unfolding answersAt live
+  used-answers h slot changes n e a = a ∙ rw (e, read, is-used n)
+
+-- a search over the slots that is left at the first hit: none before slot i
+pub record Sought (test : ℕ → Bool) (i : ℕ) : Type 0 where
   pub most : i ≤ 8
-  pub so-far : holder b s ≡ seek (isHolder b s) i (8 - i)
+  pub so-far : seek test 0 8 ≡ seek test i (8 - i)
 
-pub sought-none : (b s : List ℕ) {r : Record} → r ≡ recordOf s → Sought b s r 0
-unfolding holder
-sought-none b s e = record { own = e; most = omega arith; so-far = refl }
+pub sought-none : (test : ℕ → Bool) → Sought test 0
+sought-none test = record { most = omega arith; so-far = refl }
 
-module _ {b s : List ℕ} {r : Record} {i : ℕ} (k : Sought b s r i) where
-  asked : {t : Bool} → t ≡ (live b (r .stamp .0) i && sameIdentifier r (recordAt b i)) → t ≡ isHolder b s i
-  asked e = rw (k .own) at e
+module _ {test : ℕ → Bool} {i : ℕ} (k : Sought test i) where
+  pub sought-hit : i < 8 → test i ≡ true → i ≡ seek test 0 8
+  sought-hit l e = sym (k .so-far ∙ seek-hit test i 8 l e)
 
-  pub sought-hit : {t : Bool} → i < 8 → t ≡ (live b (r .stamp .0) i && sameIdentifier r (recordAt b i)) → t ≡ true → i ≡ holder b s
-  sought-hit l e q = sym (k .so-far ∙ seek-hit (isHolder b s) i 8 l (sym (asked e) ∙ q))
+  pub sought-miss : i < 8 → test i ≡ false → Sought test (i + 1)
+  sought-miss l e = record { most = omega arith; so-far = k .so-far ∙ seek-miss test i 8 l e }
 
-  pub sought-miss : {t : Bool} → i < 8 → t ≡ (live b (r .stamp .0) i && sameIdentifier r (recordAt b i)) → t ≡ false → Sought b s r (i + 1)
-  sought-miss l e q = record { own = k .own; most = omega arith; so-far = k .so-far ∙ seek-miss (isHolder b s) i 8 l (sym (asked e) ∙ q) }
-
-  pub sought-all : 8 ≤ i → 8 ≡ holder b s
+  pub sought-all : 8 ≤ i → 8 ≡ seek test 0 8
   sought-all l =
       let most = k .most in
-      sym (k .so-far ∙ seek-end (isHolder b s) i 8 (omega arith))
+      sym (k .so-far ∙ seek-end test i 8 (omega arith))
 
-pub other-join : (b s : List ℕ) (i held : ℕ) {h : Head} {l : Bool} → h ≡ headOf s → l ≡ live b (h .stamp .0) i → held ≡ holder b s → (l && not (eqb (h .operation) 2 && eqb i held)) ≡ other b s i
-unfolding other
-other-join b s i held e p q = rw (p, e, q)
+abbrev pub isHolder : List ℕ → Record → ℕ → Bool
+isHolder b r i = live b (r .stamp .0) i && sameIdentifier r (recordAt b i)
 
-pub clash-join : (b s : List ℕ) (i : ℕ) {r x : Record} {o k c : Bool} → r ≡ recordOf s → x ≡ recordAt b i → o ≡ other b s i → k ≡ clashes r x → c ≡ closes r x → (not (o && k) || c) ≡ clashClosed b s i
-clash-join b s i e f p q z = rw (p, q, z, e, f)
+pub found-holder : (b : List ℕ) (r : Record) {i : ℕ} → i ≡ seek (isHolder b r) 0 8 → i ≡ holderOf b r
+unfolding holderOf
+found-holder b r e = e
 
-pub changes-join : (b s : List ℕ) (held : ℕ) {h : Head} {u : UnitHead} {x : Record} {g : Bool} → h ≡ headOf s → u ≡ unitHead b → x ≡ recordAt b held → g ≡ beginsBy h x → held ≡ holder b s → (eqb (u .kind) 1 && (eqb (h .«record_type») 6 || g)) ≡ changesState b s
-unfolding changesState begins
-changes-join b s held e f x g q = rw (g, x, e, f, q)
+pub found-free : (stays : List Bool) {i : ℕ} → i ≡ seek (λ i. not (getD stays i false)) 0 8 → i ≡ freeAmong stays
+unfolding freeAmong
+found-free stays e = e
 
-pub state-join : (b s : List ℕ) {h : Head} {u : UnitHead} {t a : Bool} → u ≡ unitHead b → t ≡ changesState b s → h ≡ headOf s → a ≡ hasTransition (u .row) h → (not t || a) ≡ question18 b s
-unfolding question18
-state-join b s f p e q = rw (p, q, e, f)
+-- flags that a loop fills, slot by slot
+pub record Filled (f : ℕ → Bool) (flags : List Bool) (i : ℕ) : Type 0 where
+  pub size : length flags ≡ 8
+  pub so-far : take i flags ≡ series f 0 i
 
-pub range-join : (b : List ℕ) (direction : ℕ) {u : UnitHead} {r : PowerRange} → u ≡ unitHead b → r ≡ rangeOf (u .powers) direction → r ≡ rangeOf (unitHead b .powers) direction
-range-join b direction e p = p ∙ ap (λ (u : UnitHead). rangeOf (u .powers) direction) e
+module _ {f : ℕ → Bool} {flags : List Bool} {i : ℕ} (h : Filled f flags i) where
+  flag-more : {v : Bool} → i < 8 → v ≡ f i → Filled f (set flags i v) (i + 1)
+  flag-more {v} l e =
+      let size = h .size in
+      record {
+        size = simp length-set (omega arith);
+        so-far = filled-more f flags 0 i (h .so-far) (omega arith) (e ∙ ap f (sym (zero-add i)));
+      }
 
-pub derating-join : (range : PowerRange) (type : ℕ) (p : Part) {s : Kilowatt} {w m n : ℕ} → s ≡ sizeOf (p .power) → w ≡ s .0 → m ≡ range .max .0 → n ≡ range .min .0 → ((not (eqb type 2) || leb w m) && (not (eqb type 3) || leb (w + n) m)) ≡ deratingFits range type p
-unfolding deratingFits
-derating-join range type p e x y z = rw (x, y, z, ap (λ (k : Kilowatt). k .0) e)
+  flag-all : i ≡ 8 → flags ≡ series f 0 8
+  flag-all e = filled-all flags (series f 0 8) 8 (h .size) (rw e at (h .so-far))
 
-pub deratings-join : (b s : List ℕ) {h : Head} {r : PowerRange} {t : Bool} → h ≡ headOf s → r ≡ rangeOf (unitHead b .powers) (h .direction) → t ≡ all (deratingFits r (h .«record_type»)) (partsOf s) → t ≡ question16 b s
-unfolding question16
-deratings-join b s e q p = p ∙ rw (q, e)
+module _ (b : List ℕ) (h : Head) (slot : ℕ) (changes : Bool) where
+  abbrev answer : ℕ → SlotAnswers
+  answer i = answersAt b h slot changes i
+
+  -- the slots before slot i are asked
+  pub record Surveyed (others : List Bool) (closed : Bool) (leaves stays : List Bool) (i : ℕ) : Type 0 where
+    pub most : i ≤ 8
+    pub counted : Filled (λ i. answer i .other) others i
+    pub tested : Tested (λ i. answer i .closed) (λ i. i) 8 closed i
+    pub left : Filled (λ i. answer i .leaves) leaves i
+    pub kept : Filled (λ i. answer i .stays) stays i
+
+  pub surveyed-none : Surveyed (replicate 8 false) true (replicate 8 false) (replicate 8 false) 0
+  surveyed-none =
+      let none : (f : ℕ → Bool) → Filled f (replicate 8 false) 0 = λ f. record { size = refl; so-far = filled-none f 0 } in
+      record { most = omega arith; counted = none _; tested = tested-none; left = none _; kept = none _ }
+
+  pub surveyed-more : {others leaves stays : List Bool} {closed : Bool} {i : ℕ} {a : SlotAnswers} → Surveyed others closed leaves stays i → i < 8 → a ≡ answer i → Surveyed (set others i (a .other)) (closed && a .closed) (set leaves i (a .leaves)) (set stays i (a .stays)) (i + 1)
+  surveyed-more k l e = record {
+    most = omega arith;
+    counted = flag-more (k .counted) l (ap (λ (a : SlotAnswers). a .other) e);
+    tested = tested-more (k .tested) l (ap (λ (a : SlotAnswers). a .closed) e);
+    left = flag-more (k .left) l (ap (λ (a : SlotAnswers). a .leaves) e);
+    kept = flag-more (k .kept) l (ap (λ (a : SlotAnswers). a .stays) e);
+  }
+
+  pub surveyed-all : {others leaves stays : List Bool} {closed : Bool} {i : ℕ} → Surveyed others closed leaves stays i → 8 ≤ i → record { others = others; closed = closed; leaves = leaves; stays = stays } ≡ surveyOf b h slot changes
+  unfolding surveyOf
+  surveyed-all {others} {leaves} {stays} {closed} {i} k l =
+      let most = k .most in
+      let e : i ≡ 8 = omega arith in
+      rw (flag-all (k .counted) e, tested-all (k .tested) l, flag-all (k .left) e, flag-all (k .kept) e)
+
+-- the sweep of question 17
+module _ (h : Head) (unit : UnitHead) (ws : List FullRecord) {t : Bool} (asked : t ≡ isLevelled (h .«record_type»)) where
+  pub minutes-skipped : not t ≡ true → true ≡ question17 (unit .kind) (unit .powers) ws h
+  unfolding question17
+  minutes-skipped n = rw (sym asked ∙ not-true t n)
+
+  pub minutes-swept : {r : PowerRange} {g : SweepResult} → not t ≡ false → r ≡ rangeOf (unit .powers) (h .direction) → g ≡ sweepResult (unit .kind) r ws (h .direction) (h .period .start .0) (h .period .end .0) → g .fits ≡ question17 (unit .kind) (unit .powers) ws h
+  unfolding question17 sweepResult
+  minutes-swept n q p = ap (λ (g : SweepResult). g .fits) p ∙ rw (q, sym asked ∙ not-false t n)
 
 -- the slots that are marked are those that pass the test
 pub records-same : (b : List ℕ) (p q : ℕ → Bool) (i n : ℕ) → ((j : ℕ) → i ≤ j → j < i + n → p j ≡ q j) → recordsAmong b p i n ≡ recordsAmong b q i n
@@ -95,57 +147,3 @@ unfolding recordsAmong
 records-same b p q i zero h = refl
 records-same b p q i (suc n) h =
     rw (h i (omega arith) (omega arith), records-same b p q (i + 1) n (λ j x y. h j (omega arith) (omega arith)))
-
-reported-swept : (b s : List ℕ) → sweptRecords b s (series (other b s) 0 8) true ≡ reportedRecords b s
-unfolding sweptRecords reportedRecords pick
-reported-swept b s =
-    ap (λ (ws : List FullRecord). reportRecord s ∷ ws)
-    (records-same b (λ i. getD (series (other b s) 0 8) i false) (other b s) 0 8
-    (λ j x y. series-at (other b s) 0 8 j false (omega arith) ∙ ap (other b s) (zero-add j)))
-
-module _ (b s : List ℕ) {h : Head} {t : Bool} (e : h ≡ headOf s) (asked-type : t ≡ isLevelled (h .«record_type»)) where
-  pub minutes-swept : {counted : List Bool} {u : UnitHead} {r : PowerRange} {g : SweepResult} → t ≡ true → counted ≡ series (other b s) 0 8 → u ≡ unitHead b → r ≡ rangeOf (unitHead b .powers) (h .direction) → g ≡ sweepResult (u .kind) r (sweptRecords b s counted true) (h .direction) (h .period .start .0) (h .period .end .0) → g .fits ≡ question17 b s
-  unfolding question17 sweepResult
-  minutes-swept {counted} {u} {r} {g} y c f q p =
-      let levelled : isLevelled (headOf s .«record_type») ≡ true = ap (λ (h : Head). isLevelled (h .«record_type»)) (sym e) ∙ sym asked-type ∙ y in
-      ap (λ (g : SweepResult). g .fits) p ∙ rw (levelled, c, reported-swept b s, f, q, e)
-
-  pub minutes-skipped : t ≡ false → true ≡ question17 b s
-  unfolding question17
-  minutes-skipped y =
-      let other-type : isLevelled (headOf s .«record_type») ≡ false = ap (λ (h : Head). isLevelled (h .«record_type»)) (sym e) ∙ sym asked-type ∙ y in
-      rw other-type
-
-module _ (b s : List ℕ) (i : ℕ) {o : Bool} (asked-other : o ≡ other b s i) where
-  pub none-leaves : not o ≡ true → false ≡ leaves b s i
-  unfolding leaves
-  none-leaves t = rw (sym asked-other ∙ not-true o t)
-
-  pub leaves-join : {h : Head} {m changes : Bool} {x : Record} → not o ≡ false → h ≡ headOf s → changes ≡ changesState b s → x ≡ recordAt b i → m ≡ mustLeave h changes x → m ≡ leaves b s i
-  unfolding leaves
-  leaves-join t e q x m = m ∙ rw (sym asked-other ∙ not-false o t, x, q, e)
-
-pub stays-join : (b s : List ℕ) (i held : ℕ) {h : Head} {l t : Bool} → h ≡ headOf s → l ≡ live b (h .stamp .0) i → t ≡ leaves b s i → held ≡ holder b s → (l && not t && not (eqb (h .operation) 3 && eqb i held)) ≡ stays b s i
-unfolding stays
-stays-join b s i held e p q z = rw (p, q, e, z)
-
--- the search for a free slot, before slot i
-pub record FreeSought (b s : List ℕ) (i : ℕ) : Type 0 where
-  pub most : i ≤ 8
-  pub so-far : freeSlot b s ≡ seek (λ j. not (stays b s j)) i (8 - i)
-
-pub free-none : (b s : List ℕ) → FreeSought b s 0
-unfolding freeSlot
-free-none b s = record { most = omega arith; so-far = refl }
-
-module _ {b s : List ℕ} {i : ℕ} (k : FreeSought b s i) where
-  pub free-hit : {t : Bool} → i < 8 → t ≡ stays b s i → not t ≡ true → i ≡ freeSlot b s
-  free-hit l e q = sym (k .so-far ∙ seek-hit (λ j. not (stays b s j)) i 8 l (ap not (sym e) ∙ q))
-
-  pub free-miss : {t : Bool} → i < 8 → t ≡ stays b s i → not t ≡ false → FreeSought b s (i + 1)
-  free-miss l e q = record { most = omega arith; so-far = k .so-far ∙ seek-miss (λ j. not (stays b s j)) i 8 l (ap not (sym e) ∙ q) }
-
-  pub free-all : 8 ≤ i → 8 ≡ freeSlot b s
-  free-all l =
-      let most = k .most in
-      sym (k .so-far ∙ seek-end (λ j. not (stays b s j)) i 8 (omega arith))

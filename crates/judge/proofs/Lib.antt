@@ -1,3 +1,3 @@
 pub mod Joins
-pub mod Numbers
+pub mod Decisions
 pub mod Warnings

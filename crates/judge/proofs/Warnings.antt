@@ -19,7 +19,7 @@ use Rattle.rules.specs.declared.Record.{Record}
 use Rattle.rules.specs.declared.UnitHead.{UnitHead}
 use Rattle.rules.specs.Codes.{meet}
 use Rattle.rules.specs.Block.{slotAt, used, recordIn, unitHead}
-use Rattle.rules.specs.Questions.{recordOf, rangeOf, leaves}
+use Rattle.rules.specs.Questions.{recordBy, rangeOf, leaves}
 use Rattle.rules.specs.Minutes.{FullRecord, recordsAmong, blockRecords, aboveMax, belowMin, levelsSome}
 use Rattle.rules.specs.After.{oneStopOneLevelled, blockAfter, someSlot, warnsOverlap, warnsMinute, warnsLeft, worth, warnings}
 use Rattle.levels.specs.declared.SweepResult.{SweepResult}
@@ -31,9 +31,9 @@ use Rattle.judge.proofs.Joins.{records-same}
 pub overlap-join : (after : List ℕ) (r : Record) (i : ℕ) {z : List ℕ} {x : Record} {u o m p : Bool} → z ≡ slotAt after i → x ≡ recordIn z → u ≡ used z → o ≡ oneStopOneLevelled r x → m ≡ meet (r .direction) (x .direction) → p ≡ overlap (r .period) (x .period) → (u && o && m && p) ≡ overlapAt after r i
 overlap-join after r i e f a b c d = rw (a, b, c, d, f, e)
 
-pub warns-join : (after s : List ℕ) {r : Record} {none : Bool} → r ≡ recordOf s → none ≡ all (λ i. not (overlapAt after r i)) (series (λ i. i) 0 8) → not none ≡ warnsOverlap after s
+pub warns-join : (after : List ℕ) (h : Head) {r : Record} {none : Bool} → r ≡ recordBy h → none ≡ all (λ i. not (overlapAt after r i)) (series (λ i. i) 0 8) → not none ≡ warnsOverlap after h
 unfolding warnsOverlap someSlot
-warns-join after s e p = ap not p ∙ rw e
+warns-join after h e p = ap not p ∙ rw e
 
 block-swept : (b s : List ℕ) → sweptRecords b s (series (λ i. used (slotAt b i)) 0 8) false ≡ blockRecords b
 unfolding sweptRecords blockRecords pick
@@ -41,38 +41,28 @@ block-swept b s =
     records-same b (λ i. getD (series (λ i. used (slotAt b i)) 0 8) i false) (λ i. used (slotAt b i)) 0 8
     (λ j x y. series-at (λ i. used (slotAt b i)) 0 8 j false (omega arith) ∙ ap (λ (k : ℕ). used (slotAt b k)) (zero-add j))
 
-module _ (after s : List ℕ) {h : Head} (e : h ≡ headOf s) where
-  type-same : h .«record_type» ≡ headOf s .«record_type»
-  type-same = ap (λ (h : Head). h .«record_type») e
-
-  pub minutes-warn : {counted : List Bool} {u : UnitHead} {r : PowerRange} {g : SweepResult} {x y : ℕ} → h .«record_type» ≡ 4 → counted ≡ series (λ i. used (slotAt after i)) 0 8 → u ≡ unitHead after → r ≡ rangeOf (unitHead after .powers) (h .direction) → g ≡ sweepResult (u .kind) r (sweptRecords after s counted false) (headOf s .direction) (headOf s .period .start .0) (headOf s .period .end .0) → x ≡ worth 2 (g .above) → y ≡ worth 4 (g .below) → x + y ≡ minuteWarnings after s
+module _ (after : List ℕ) (h : Head) where
+  pub minutes-warn : {counted : List Bool} {u : UnitHead} {r : PowerRange} {g : SweepResult} {x y : ℕ} → h .«record_type» ≡ 4 → counted ≡ series (λ i. used (slotAt after i)) 0 8 → u ≡ unitHead after → r ≡ rangeOf (u .powers) (h .direction) → g ≡ sweepResult (u .kind) r (sweptRecords after after counted false) (h .direction) (h .period .start .0) (h .period .end .0) → x ≡ worth 2 (g .above) → y ≡ worth 4 (g .below) → x + y ≡ minuteWarnings after h
   unfolding warnsMinute sweepResult
   minutes-warn {counted} {u} {r} {g} {x} {y} t c f q p a b =
-      let forced = eq-eqb (headOf s .«record_type») 4 (sym type-same ∙ t) in
-      let above : g .above ≡ warnsMinute aboveMax after s = ap (λ (g : SweepResult). g .above) p ∙ rw (forced, c, block-swept after s, f, q, e) in
-      let below : g .below ≡ warnsMinute belowMin after s = ap (λ (g : SweepResult). g .below) p ∙ rw (forced, c, block-swept after s, f, q, e) in
+      let forced = eq-eqb (h .«record_type») 4 t in
+      let above : g .above ≡ warnsMinute aboveMax after h = ap (λ (g : SweepResult). g .above) p ∙ rw (forced, c, block-swept after after, q, f) in
+      let below : g .below ≡ warnsMinute belowMin after h = ap (λ (g : SweepResult). g .below) p ∙ rw (forced, c, block-swept after after, q, f) in
       rw (a, b, above, below)
 
-  pub minutes-silent : (h .«record_type» ≡ 4 → ⊥) → 0 ≡ minuteWarnings after s
+  pub minutes-silent : (h .«record_type» ≡ 4 → ⊥) → 0 ≡ minuteWarnings after h
   unfolding warnsMinute pick
-  minutes-silent ne = rw (ne-eqb (headOf s .«record_type») 4 (λ t. ne (type-same ∙ t)))
+  minutes-silent ne = rw (ne-eqb (h .«record_type») 4 ne)
 
-  unfoldable skips : Bool → Type 0
-  skips t = (eqb (headOf s .«record_type») 6 || eqb (headOf s .operation) 3) ≡ t
+  pub no-warnings : (left : Bool) → (eqb (h .«record_type») 6 || eqb (h .operation) 3) ≡ true → 0 ≡ warningsOn after h left
+  unfolding warningsOn pick
+  no-warnings left t = rw t
 
-  skipped : (t : Bool) → (eqb (h .«record_type») 6 || eqb (h .operation) 3) ≡ t → skips t
-  unfolding skips
-  skipped t q = ap (λ (h : Head). eqb (h .«record_type») 6 || eqb (h .operation) 3) (sym e) ∙ q
-
-  pub no-warnings : (left : Bool) → (eqb (h .«record_type») 6 || eqb (h .operation) 3) ≡ true → 0 ≡ warningsOn after s left
-  unfolding warningsOn skips pick
-  no-warnings left t = rw (skipped true t)
-
-  pub all-warnings : (left : Bool) {x y z : ℕ} → (eqb (h .«record_type») 6 || eqb (h .operation) 3) ≡ false → x ≡ worth 1 (warnsOverlap after s) → y ≡ worth 8 (eqb (h .«record_type») 1 && left) → z ≡ minuteWarnings after s → x + z + y ≡ warningsOn after s left
-  unfolding warningsOn skips pick
-  all-warnings left t a b c = rw (a, b, c, type-same, skipped false t)
+  pub all-warnings : (left : Bool) {x y z : ℕ} → (eqb (h .«record_type») 6 || eqb (h .operation) 3) ≡ false → x ≡ worth 1 (warnsOverlap after h) → y ≡ worth 8 (eqb (h .«record_type») 1 && left) → z ≡ minuteWarnings after h → x + z + y ≡ warningsOn after h left
+  unfolding warningsOn pick
+  all-warnings left t a b c = rw (a, b, c, t)
 
 -- they are the warnings of the paper
-pub warnings-same : (b s : List ℕ) → warningsOn (blockAfter b s) s (someSlot (leaves b s)) ≡ warnings b s
+pub warnings-same : (b s : List ℕ) → warningsOn (blockAfter b s) (headOf s) (someSlot (leaves b s)) ≡ warnings b s
 unfolding warningsOn warnings warnsLeft
 warnings-same b s = ap (pick _ 0) (omega arith)

@@ -1,4 +1,4 @@
-// Questions 10 to 19 on a unit's block, and the number of the first "no".
+// Questions 10 to 19 on a unit's block, the number of the first "no", and what an accepted report does to the slots.
 use levels::Swept;
 use quantities::Minute;
 use records::CHANGE;
@@ -6,36 +6,51 @@ use records::CREATE;
 use records::EVENT;
 use records::EXECUTED;
 use records::FORCED_WORK;
-use records::NEGATIVE_DERATING;
 use records::OFF_GRID;
-use records::POSITIVE_DERATING;
 use records::STOP;
 use records::W1;
 use records::WITHDRAW;
+use records::ask;
 use report::Head;
-use report::Part;
-use rules::PowerRange;
 use rules::Record;
 use rules::Row;
+use rules::UnitHead;
 ghost use mathlib.Core.Path.{_≡_};
-ghost use mathlib.Core.Bool.{_&&_};
+ghost use mathlib.Core.Bool.{true, _&&_};
 ghost use Prim.Native.Nat.{_+_, _≤_};
-ghost use lib.Dec.{eqb};
-ghost use Rattle.fields.specs.Lists.{pick, all, series};
-ghost use Rattle.report.specs.Report.{headOf, partsOf};
+ghost use Rattle.fields.specs.Lists.{series};
 ghost use Rattle.rules.specs.Records.{sameIdentifier};
-ghost use Rattle.rules.specs.Codes.{isLevelled};
-ghost use Rattle.rules.specs.Block.{slotAt, used};
-ghost use Rattle.rules.specs.After.{slotWritten, someSlot, oneStopOneLevelled, warnsOverlap, worth};
-ghost use Rattle.judge.specs.Warned.{overlapAt, minuteWarnings, warningsOn, outcomeOf};
-ghost use Rattle.rules.specs.Judge.{formNumber, recordNumber, limitNumber, refusalNumber};
+ghost use Rattle.rules.specs.Block.{slotAt, used, unitHead};
+ghost use Rattle.rules.specs.Questions.{rangeOf, recordAt, live, beginsBy, changesBy, hasTransition, question13, question14, mustLeave};
 ghost use Rattle.rules.specs.Minutes.{question17};
-ghost use Rattle.rules.specs.Block.{unitHead};
-ghost use Rattle.rules.specs.Questions.{rangeOf, recordOf, recordAt, live, holder, other, ofHolder, mayMove, clashClosed, question15, deratingFits, question16, beginsBy, changesState, hasTransition, question18, mustLeave, leaves, stays, freeSlot};
+ghost use Rattle.rules.specs.After.{oneStopOneLevelled, warnsOverlap, worth};
+ghost use Rattle.rules.specs.Judge.{heldNumber, limitNumber};
+ghost use Rattle.levels.specs.Counted.{sweptRecords};
+ghost use Rattle.judge.specs.Survey.{holderOf, slotAnswers as answersOf, answersAt, surveyOf, freeAmong, someOf};
+ghost use Rattle.judge.specs.Decided.{writtenBy, refusedDecision, limitsDecided, decisionOf};
+ghost use Rattle.judge.specs.Warned.{overlapAt, minuteWarnings, warningsOn};
 
-// What an accepted report does to the slots: which keep their record, which one is written (8: none), whether the
-// state changes, and whether some record leaves.
-pub struct Outcome {
+// What is asked of a slot from question 15 on: does it count beside the report, is its clash with the report closed,
+// does its record leave, does it stay.
+pub struct SlotAnswers {
+    pub other: bool,
+    pub closed: bool,
+    pub leaves: bool,
+    pub stays: bool,
+}
+
+// The same of all slots; `closed` is question 15.
+pub struct Survey {
+    pub others: [bool; 8],
+    pub closed: bool,
+    pub leaves: [bool; 8],
+    pub stays: [bool; 8],
+}
+
+// The number of the first "no", or 0; then the slots that keep their record, the slot that is written (8: none), whether
+// the state changes, and whether some record leaves.
+pub struct Decision {
+    pub number: u8,
     pub keep: [bool; 8],
     pub written: u8,
     pub changes: bool,
@@ -48,25 +63,22 @@ fn record_at(b: &[u8], i: u8) -> Record
     block::record_in(block::slot_at(b, i))
 }
 
-fn is_live(b: &[u8], stamp: Minute, i: u8) -> bool
-    ensures { λ r. ⌜ r ≡ live (now (b .entry)) (stamp .0) i ⌝ }
-{
-    let z = block::slot_at(b, i);
-    block::is_used(z) & (stamp.0 < block::record_in(z).period.end.0)
-}
-
 // Slot i is live and has the record's identifier.
 fn holds(b: &[u8], r: Record, i: u8) -> bool
     ensures { λ t. ⌜ t ≡ (live (now (b .entry)) (r .stamp .0) i && sameIdentifier r (recordAt (now (b .entry)) i)) ⌝ }
 {
-    is_live(b, r.stamp, i) & records::same_identifier(r, record_at(b, i))
+    let z = block::slot_at(b, i);
+    if !block::is_used(z) {
+        return false;
+    }
+    let x = block::record_in(z);
+    (r.stamp.0 < x.period.end.0) & records::same_identifier(r, x)
 }
 
-// The live slot that has the report's identifier, or 8.
-fn find_holder(b: &[u8], report: &[u8]) -> u8
-    ensures { λ r. ⌜ r ≡ holder (now (b .entry)) (now (report .entry)) ⌝ }
+// The live slot that has the record's identifier, or 8.
+fn find_holder(b: &[u8], r: Record) -> u8
+    ensures { λ i. ⌜ i ≡ holderOf (now (b .entry)) r ⌝ }
 {
-    let r = records::record_of(report);
     for i in 0..8u8 {
         if holds(b, r, i) {
             return i;
@@ -75,30 +87,9 @@ fn find_holder(b: &[u8], report: &[u8]) -> u8
     8
 }
 
-// Slot i is live and not the one that is changed.
-fn is_other(b: &[u8], report: &[u8], held: u8, i: u8) -> bool
-    requires { ⌜ held ≡ holder (now b) (now report) ⌝ }
-    ensures { λ r. ⌜ r ≡ other (now (b .entry)) (now (report .entry)) i ⌝ }
-{
-    let h = report::head_of(report);
-    let live = is_live(b, h.stamp, i);
-    live & !((h.operation == CHANGE) & (i == held))
-}
-
-fn other_slots(b: &[u8], report: &[u8], held: u8) -> [bool; 8]
-    requires { ⌜ held ≡ holder (now b) (now report) ⌝ }
-    ensures { λ r. ⌜ r ≡ series (other (now (b .entry)) (now (report .entry))) 0 8 ⌝ }
-{
-    let mut flags = [false; 8];
-    for i in 0..8u8 {
-        flags[i as usize] = is_other(b, report, held, i);
-    }
-    flags
-}
-
 // Question 13.
 fn is_of_holder(h: Head, held: Record) -> bool
-    ensures { λ r. ⌜ r ≡ ofHolder h held ⌝ }
+    ensures { λ r. ⌜ r ≡ question13 h held ⌝ }
 {
     (h.operation == CREATE)
         | ((h.record_type == held.record_type)
@@ -109,7 +100,7 @@ fn is_of_holder(h: Head, held: Record) -> bool
 
 // Question 14.
 fn may_move(h: Head, held: Record) -> bool
-    ensures { λ r. ⌜ r ≡ mayMove h held ⌝ }
+    ensures { λ r. ⌜ r ≡ question14 h held ⌝ }
 {
     (h.operation == CREATE)
         | !(held.start_mark == EXECUTED)
@@ -118,62 +109,25 @@ fn may_move(h: Head, held: Record) -> bool
             & (h.start_mark == EXECUTED))
 }
 
-// Question 15, of one slot.
-fn clash_is_closed(b: &[u8], report: &[u8], held: u8, i: u8) -> bool
-    requires { ⌜ held ≡ holder (now b) (now report) ⌝ }
-    ensures { λ r. ⌜ r ≡ clashClosed (now (b .entry)) (now (report .entry)) i ⌝ }
+// Questions 10 to 14.
+fn held_number(last: Minute, h: Head, slot: u8, held: Record) -> u8
+    ensures { λ r. ⌜ r ≡ heldNumber last h slot held 0 ⌝ }
 {
-    let r = records::record_of(report);
-    let x = record_at(b, i);
-    !(is_other(b, report, held, i) & records::records_clash(r, x)) | records::record_closes(r, x)
-}
-
-// Question 15.
-fn clashes_are_closed(b: &[u8], report: &[u8], held: u8) -> bool
-    requires { ⌜ held ≡ holder (now b) (now report) ⌝ }
-    ensures { λ r. ⌜ r ≡ question15 (now (b .entry)) (now (report .entry)) ⌝ }
-{
-    let mut ok = true;
-    for i in 0..8u8 {
-        ok = ok & clash_is_closed(b, report, held, i);
-    }
-    ok
-}
-
-fn derating_fits(range: PowerRange, record_type: u8, p: Part) -> bool
-    ensures { λ r. ⌜ r ≡ deratingFits range «record_type» p ⌝ }
-{
-    let power = quantities::wide(quantities::size_of(p.power));
-    let max = quantities::wide(range.max);
-    let min = quantities::wide(range.min);
-    (!(record_type == POSITIVE_DERATING) | (power <= max))
-        & (!(record_type == NEGATIVE_DERATING) | (power + min <= max))
-}
-
-fn range_of(b: &[u8], direction: u8) -> PowerRange
-    ensures { λ r. ⌜ r ≡ rangeOf (unitHead (now (b .entry)) .powers) direction ⌝ }
-{
-    let head = block::unit_head(b);
-    records::range_of(head.powers, direction)
-}
-
-fn deratings_among(report: &[u8], range: PowerRange, record_type: u8) -> bool
-    ensures { λ r. ⌜ r ≡ all (deratingFits range «record_type») (partsOf (now (report .entry))) ⌝ }
-{
-    let k = fields::u16_at(report, 14);
-    let mut ok = true;
-    for i in 0..k {
-        ok = ok & derating_fits(range, record_type, report::part_at(report, i));
-    }
-    ok
-}
-
-// Question 16.
-fn deratings_fit(b: &[u8], report: &[u8]) -> bool
-    ensures { λ r. ⌜ r ≡ question16 (now (b .entry)) (now (report .entry)) ⌝ }
-{
-    let h = report::head_of(report);
-    deratings_among(report, range_of(b, h.direction), h.record_type)
+    let creates = h.operation == CREATE;
+    let is_held = slot < 8;
+    let from_13 = ask(
+        h,
+        13,
+        is_of_holder(h, held),
+        ask(h, 14, may_move(h, held), 0),
+    );
+    let from_11 = ask(
+        h,
+        11,
+        !creates | !is_held,
+        ask(h, 12, creates | is_held, from_13),
+    );
+    ask(h, 10, last.0 <= h.stamp.0, from_11)
 }
 
 fn begins(h: Head, held: Record) -> bool
@@ -184,29 +138,10 @@ fn begins(h: Head, held: Record) -> bool
         & ((h.operation == CREATE) | ((h.operation == CHANGE) & !(held.start_mark == EXECUTED)))
 }
 
-fn changes_state(b: &[u8], report: &[u8], held: u8) -> bool
-    requires { ⌜ held ≡ holder (now b) (now report) ⌝ }
-    ensures { λ r. ⌜ r ≡ changesState (now (b .entry)) (now (report .entry)) ⌝ }
+fn changes_state(kind: u8, h: Head, held: Record) -> bool
+    ensures { λ r. ⌜ r ≡ changesBy kind h held ⌝ }
 {
-    let h = report::head_of(report);
-    let kind = block::unit_head(b).kind;
-    (kind == W1) & ((h.record_type == EVENT) | begins(h, record_at(b, held)))
-}
-
-fn has_transition(row: Row, h: Head) -> bool
-    ensures { λ r. ⌜ r ≡ hasTransition row h ⌝ }
-{
-    row::stepped(row, h).moved
-}
-
-// Question 18.
-fn state_may_change(b: &[u8], report: &[u8], held: u8) -> bool
-    requires { ⌜ held ≡ holder (now b) (now report) ⌝ }
-    ensures { λ r. ⌜ r ≡ question18 (now (b .entry)) (now (report .entry)) ⌝ }
-{
-    let head = block::unit_head(b);
-    let row = head.row;
-    !changes_state(b, report, held) | has_transition(row, report::head_of(report))
+    (kind == W1) & ((h.record_type == EVENT) | begins(h, held))
 }
 
 fn must_leave(h: Head, changes: bool, x: Record) -> bool
@@ -217,208 +152,197 @@ fn must_leave(h: Head, changes: bool, x: Record) -> bool
         | (changes & records::holds_state(x))
 }
 
-// Question 17.
-fn minutes_fit(b: &[u8], report: &[u8], held: u8) -> bool
-    requires { ⌜ held ≡ holder (now b) (now report) ⌝ }
-    ensures { λ r. ⌜ r ≡ question17 (now (b .entry)) (now (report .entry)) ⌝ }
+fn slot_answers(h: Head, slot: u8, changes: bool, is_live: bool, x: Record, i: u8) -> SlotAnswers
+    ensures { λ r. ⌜ r ≡ answersOf h slot changes «is_live» x i ⌝ }
 {
-    let h = report::head_of(report);
-    if records::is_levelled(h.record_type) {
-        let counted = other_slots(b, report, held);
-        let swept = Swept {
-            counted,
-            with_report: true,
+    let r = records::record_by(h);
+    let other = is_live & !((h.operation == CHANGE) & (i == slot));
+    let closed = !(other & records::records_clash(r, x)) | records::record_closes(r, x);
+    let leaves = other & must_leave(h, changes, x);
+    SlotAnswers {
+        other,
+        closed,
+        leaves,
+        stays: is_live & !leaves & !((h.operation == WITHDRAW) & (i == slot)),
+    }
+}
+
+fn answers_at(b: &[u8], h: Head, slot: u8, changes: bool, i: u8) -> SlotAnswers
+    ensures { λ r. ⌜ r ≡ answersAt (now (b .entry)) h slot changes i ⌝ }
+{
+    let z = block::slot_at(b, i);
+    if !block::is_used(z) {
+        return SlotAnswers {
+            other: false,
+            closed: true,
+            leaves: false,
+            stays: false,
         };
-        let kind = block::unit_head(b).kind;
-        let range = range_of(b, h.direction);
-        let period = h.period;
-        levels::sweep(b, report, swept, h.direction, period, kind, range).fits
-    } else {
-        true
     }
+    let x = block::record_in(z);
+    slot_answers(h, slot, changes, h.stamp.0 < x.period.end.0, x, i)
 }
 
-// The record in slot i leaves.
-fn leaves_at(b: &[u8], report: &[u8], held: u8, changes: bool, i: u8) -> bool
-    requires { ⌜ (held ≡ holder (now b) (now report)) × (changes ≡ changesState (now b) (now report)) ⌝ }
-    ensures { λ r. ⌜ r ≡ leaves (now (b .entry)) (now (report .entry)) i ⌝ }
+fn survey_slots(b: &[u8], h: Head, slot: u8, changes: bool) -> Survey
+    ensures { λ r. ⌜ r ≡ surveyOf (now (b .entry)) h slot changes ⌝ }
 {
-    if !is_other(b, report, held, i) {
-        return false;
-    }
-    must_leave(report::head_of(report), changes, record_at(b, i))
-}
-
-// Slot i keeps its record.
-fn stays_at(b: &[u8], report: &[u8], held: u8, changes: bool, i: u8) -> bool
-    requires { ⌜ (held ≡ holder (now b) (now report)) × (changes ≡ changesState (now b) (now report)) ⌝ }
-    ensures { λ r. ⌜ r ≡ stays (now (b .entry)) (now (report .entry)) i ⌝ }
-{
-    let h = report::head_of(report);
-    let live = is_live(b, h.stamp, i);
-    let leaves = leaves_at(b, report, held, changes, i);
-    live & !leaves & !((h.operation == WITHDRAW) & (i == held))
-}
-
-fn staying_slots(b: &[u8], report: &[u8], held: u8, changes: bool) -> [bool; 8]
-    requires { ⌜ (held ≡ holder (now b) (now report)) × (changes ≡ changesState (now b) (now report)) ⌝ }
-    ensures { λ r. ⌜ r ≡ series (stays (now (b .entry)) (now (report .entry))) 0 8 ⌝ }
-{
-    let mut flags = [false; 8];
+    let mut others = [false; 8];
+    let mut closed = true;
+    let mut leaves = [false; 8];
+    let mut stays = [false; 8];
     for i in 0..8u8 {
-        flags[i as usize] = stays_at(b, report, held, changes, i);
+        let a = answers_at(b, h, slot, changes, i);
+        others[i as usize] = a.other;
+        closed = closed & a.closed;
+        leaves[i as usize] = a.leaves;
+        stays[i as usize] = a.stays;
     }
-    flags
+    Survey {
+        others,
+        closed,
+        leaves,
+        stays,
+    }
 }
 
 // The lowest slot that does not keep its record, or 8.
-fn lowest_free(b: &[u8], report: &[u8], held: u8, changes: bool) -> u8
-    requires { ⌜ (held ≡ holder (now b) (now report)) × (changes ≡ changesState (now b) (now report)) ⌝ }
-    ensures { λ r. ⌜ r ≡ freeSlot (now (b .entry)) (now (report .entry)) ⌝ }
+fn lowest_free(stays: [bool; 8]) -> u8
+    ensures { λ r. ⌜ r ≡ freeAmong stays ⌝ }
 {
     for i in 0..8u8 {
-        if !stays_at(b, report, held, changes, i) {
+        if !stays[i as usize] {
             return i;
         }
     }
     8
 }
 
-// The number of a question that is answered no, else what is answered next.
-fn asked(number: u8, yes: bool, next: u8) -> u8
-    ensures { λ r. ⌜ r ≡ pick yes next number ⌝ }
-{
-    if yes { next } else { number }
-}
-
-// Questions 4 to 9.
-fn form_number(b: &[u8], report: &[u8]) -> u8
-    ensures { λ r. ⌜ r ≡ formNumber (now (b .entry)) (now (report .entry)) 0 ⌝ }
-{
-    if !validation::fields_pass(report) {
-        return 4;
-    }
-    let h = report::head_of(report);
-    let is_withdrawal = h.operation == WITHDRAW;
-    let kind = block::unit_head(b).kind;
-    if !records::kind_allows(kind, records::record_by(h)) {
-        return 5;
-    }
-    if !(is_withdrawal | validation::times_are_consistent(h)) {
-        return 6;
-    }
-    if !(is_withdrawal | validation::ends_are_on_quarters(report)) {
-        return 7;
-    }
-    if !validation::parts_pass(report) {
-        return 8;
-    }
-    if (h.record_type == EVENT) | is_withdrawal {
-        return 0;
-    }
-    asked(9, validation::powers_pass(report), 0)
-}
-
-// Questions 10 to 15.
-fn record_number(b: &[u8], report: &[u8], held: u8) -> u8
-    requires { ⌜ held ≡ holder (now b) (now report) ⌝ }
-    ensures { λ r. ⌜ r ≡ recordNumber (now (b .entry)) (now (report .entry)) 0 ⌝ }
-{
-    let h = report::head_of(report);
-    let is_creation = h.operation == CREATE;
-    let skips_15 = h.operation == WITHDRAW;
-    let last = block::unit_head(b).last_stamp;
-    if !(last.0 <= h.stamp.0) {
-        return 10;
-    }
-    if h.record_type == EVENT {
-        return 0;
-    }
-    if !(!is_creation | !(held < 8)) {
-        return 11;
-    }
-    if !(is_creation | (held < 8)) {
-        return 12;
-    }
-    let x = record_at(b, held);
-    if !is_of_holder(h, x) {
-        return 13;
-    }
-    if !may_move(h, x) {
-        return 14;
-    }
-    if skips_15 {
-        return 0;
-    }
-    asked(15, clashes_are_closed(b, report, held), 0)
-}
-
-// Questions 16 to 19.
-fn limit_number(b: &[u8], report: &[u8], held: u8) -> u8
-    requires { ⌜ held ≡ holder (now b) (now report) ⌝ }
-    ensures { λ r. ⌜ r ≡ limitNumber (now (b .entry)) (now (report .entry)) 0 ⌝ }
-{
-    let h = report::head_of(report);
-    if h.operation == WITHDRAW {
-        return 0;
-    }
-    if h.record_type == EVENT {
-        return asked(18, state_may_change(b, report, held), 0);
-    }
-    if !deratings_fit(b, report) {
-        return 16;
-    }
-    if !minutes_fit(b, report, held) {
-        return 17;
-    }
-    if !state_may_change(b, report, held) {
-        return 18;
-    }
-    if h.operation != CREATE {
-        return 0;
-    }
-    let changes = changes_state(b, report, held);
-    asked(19, lowest_free(b, report, held, changes) < 8, 0)
-}
-
-// The number of the first "no", or 0.
-pub fn refusal_number(b: &[u8], report: &[u8]) -> u8
-    ensures { λ r. ⌜ r ≡ refusalNumber (now (b .entry)) (now (report .entry)) ⌝ }
-{
-    let form = form_number(b, report);
-    if form != 0 {
-        return form;
-    }
-    let held = find_holder(b, report);
-    let record = record_number(b, report, held);
-    if record != 0 {
-        return record;
-    }
-    limit_number(b, report, held)
-}
-
-// The slot that an accepted report writes, or 8.
-fn slot_written(b: &[u8], report: &[u8], held: u8, changes: bool) -> u8
-    requires { ⌜ (held ≡ holder (now b) (now report)) × (changes ≡ changesState (now b) (now report)) ⌝ }
-    ensures { λ r. ⌜ r ≡ slotWritten (now (b .entry)) (now (report .entry)) ⌝ }
-{
-    let h = report::head_of(report);
-    if (h.operation == CREATE) & !(h.record_type == EVENT) {
-        return lowest_free(b, report, held, changes);
-    }
-    records::choose_code(h.operation == CHANGE, held, 8)
-}
-
-// Some record leaves.
-fn some_leaves(b: &[u8], report: &[u8], held: u8, changes: bool) -> bool
-    requires { ⌜ (held ≡ holder (now b) (now report)) × (changes ≡ changesState (now b) (now report)) ⌝ }
-    ensures { λ r. ⌜ r ≡ someSlot (leaves (now (b .entry)) (now (report .entry))) ⌝ }
+fn some_of(flags: [bool; 8]) -> bool
+    ensures { λ r. ⌜ r ≡ someOf flags ⌝ }
 {
     let mut none = true;
     for i in 0..8u8 {
-        none = none & !leaves_at(b, report, held, changes, i);
+        none = none & !flags[i as usize];
     }
     !none
+}
+
+fn has_transition(row: Row, h: Head) -> bool
+    ensures { λ r. ⌜ r ≡ hasTransition row h ⌝ }
+{
+    row::stepped(row, h).moved
+}
+
+// Question 17.
+fn minutes_fit(b: &[u8], report: &[u8], h: Head, unit: UnitHead, others: [bool; 8]) -> bool
+    ensures { λ r. ⌜ r ≡ question17 (unit .kind) (unit .powers) (sweptRecords (now (b .entry)) (now (report .entry)) others true) h ⌝ }
+{
+    if !records::is_levelled(h.record_type) {
+        return true;
+    }
+    let swept = Swept {
+        counted: others,
+        with_report: true,
+    };
+    let range = records::range_of(unit.powers, h.direction);
+    levels::sweep(b, report, swept, h.direction, h.period, unit.kind, range).fits
+}
+
+// Questions 15 to 19, by their answers.
+fn limit_number(
+    h: Head,
+    closed: bool,
+    deratings: bool,
+    minutes: bool,
+    state: bool,
+    free: bool,
+) -> u8
+    ensures { λ r. ⌜ r ≡ limitNumber h closed deratings minutes state free 0 ⌝ }
+{
+    let from_18 = ask(h, 18, state, ask(h, 19, free, 0));
+    ask(
+        h,
+        15,
+        closed,
+        ask(h, 16, deratings, ask(h, 17, minutes, from_18)),
+    )
+}
+
+// The slot that an accepted report writes, or 8.
+fn slot_written(h: Head, slot: u8, free: u8) -> u8
+    ensures { λ r. ⌜ r ≡ writtenBy h slot free ⌝ }
+{
+    records::choose_code(
+        (h.operation == CREATE) & !(h.record_type == EVENT),
+        free,
+        records::choose_code(h.operation == CHANGE, slot, 8),
+    )
+}
+
+fn refuse(number: u8) -> Decision
+    ensures { λ r. ⌜ r ≡ refusedDecision number ⌝ }
+{
+    let keep = [false; 8];
+    Decision {
+        number,
+        keep,
+        written: 8,
+        changes: false,
+        left: false,
+    }
+}
+
+// Questions 15 to 19, after the others.
+fn decide_limits(
+    b: &[u8],
+    report: &[u8],
+    h: Head,
+    unit: UnitHead,
+    slot: u8,
+    changes: bool,
+    deratings: bool,
+) -> Decision
+    ensures { λ r. ⌜ r ≡ limitsDecided (now (b .entry)) (now (report .entry)) h unit slot changes deratings ⌝ }
+{
+    let survey = survey_slots(b, h, slot, changes);
+    let keep = survey.stays;
+    let others = survey.others;
+    let leaves = survey.leaves;
+    let free = lowest_free(keep);
+    let minutes = minutes_fit(b, report, h, unit, others);
+    let state = !changes | has_transition(unit.row, h);
+    let room = !((h.operation == CREATE) & !(h.record_type == EVENT)) | (free < 8);
+    let number = limit_number(h, survey.closed, deratings, minutes, state, room);
+    if number != 0 {
+        return refuse(number);
+    }
+    Decision {
+        number: 0,
+        keep,
+        written: slot_written(h, slot, free),
+        changes,
+        left: some_of(leaves),
+    }
+}
+
+// The first "no" of questions 4 to 19, or what an accepted report does to the slots.
+pub fn decide(b: &[u8], report: &[u8]) -> Decision
+    ensures { λ r. ⌜ r ≡ decisionOf (now (b .entry)) (now (report .entry)) ⌝ }
+{
+    let h = report::head_of(report);
+    let unit = block::unit_head(b);
+    let validated = validation::validate(unit, h, report);
+    if validated.number != 0 {
+        return refuse(validated.number);
+    }
+    let slot = find_holder(b, records::record_by(h));
+    let held = record_at(b, slot);
+    let number = held_number(unit.last_stamp, h, slot, held);
+    if number != 0 {
+        return refuse(number);
+    }
+    let changes = changes_state(unit.kind, h, held);
+    decide_limits(b, report, h, unit, slot, changes, validated.deratings)
 }
 
 fn one_stop_one_levelled(x: Record, y: Record) -> bool
@@ -441,10 +365,10 @@ fn overlaps_at(after: &[u8], r: Record, i: u8) -> bool
         & quantities::overlapping(r.period, x.period)
 }
 
-fn warns_overlap(after: &[u8], report: &[u8]) -> bool
-    ensures { λ r. ⌜ r ≡ warnsOverlap (now (after .entry)) (now (report .entry)) ⌝ }
+fn warns_overlap(after: &[u8], h: Head) -> bool
+    ensures { λ r. ⌜ r ≡ warnsOverlap (now (after .entry)) h ⌝ }
 {
-    let r = records::record_of(report);
+    let r = records::record_by(h);
     let mut none = true;
     for i in 0..8u8 {
         none = none & !overlaps_at(after, r, i);
@@ -469,51 +393,30 @@ fn worth_of(n: u8, t: bool) -> u8
 }
 
 // Warnings 2 and 4.
-fn minute_warnings(after: &[u8], report: &[u8]) -> u8
-    ensures { λ r. ⌜ (r ≡ minuteWarnings (now (after .entry)) (now (report .entry))) × (r ≤ 6) ⌝ }
+fn minute_warnings(after: &[u8], h: Head) -> u8
+    ensures { λ r. ⌜ (r ≡ minuteWarnings (now (after .entry)) h) × (r ≤ 6) ⌝ }
 {
-    let h = report::head_of(report);
-    if h.record_type == FORCED_WORK {
-        let counted = used_slots(after);
-        let swept = Swept {
-            counted,
-            with_report: false,
-        };
-        let kind = block::unit_head(after).kind;
-        let range = range_of(after, h.direction);
-        let period = h.period;
-        let g = levels::sweep(after, report, swept, h.direction, period, kind, range);
-        worth_of(2, g.above) + worth_of(4, g.below)
-    } else {
-        0
+    if h.record_type != FORCED_WORK {
+        return 0;
     }
+    let swept = Swept {
+        counted: used_slots(after),
+        with_report: false,
+    };
+    let unit = block::unit_head(after);
+    let range = records::range_of(unit.powers, h.direction);
+    let g = levels::sweep(after, after, swept, h.direction, h.period, unit.kind, range);
+    worth_of(2, g.above) + worth_of(4, g.below)
 }
 
 // The warnings of an accepted report, on the block afterwards; `left`: some record left.
-pub fn warnings_on(after: &[u8], report: &[u8], left: bool) -> u8
-    ensures { λ r. ⌜ r ≡ warningsOn (now (after .entry)) (now (report .entry)) left ⌝ }
+pub fn warnings_on(after: &[u8], h: Head, left: bool) -> u8
+    ensures { λ r. ⌜ r ≡ warningsOn (now (after .entry)) h left ⌝ }
 {
-    let h = report::head_of(report);
     if (h.record_type == EVENT) | (h.operation == WITHDRAW) {
         return 0;
     }
-    let overlap = worth_of(1, warns_overlap(after, report));
+    let overlap = worth_of(1, warns_overlap(after, h));
     let left_by_stop = worth_of(8, (h.record_type == STOP) & left);
-    overlap + minute_warnings(after, report) + left_by_stop
-}
-
-pub fn decide(b: &[u8], report: &[u8]) -> Outcome
-    ensures { λ r. ⌜ r ≡ outcomeOf (now (b .entry)) (now (report .entry)) ⌝ }
-{
-    let held = find_holder(b, report);
-    let changes = changes_state(b, report, held);
-    let keep = staying_slots(b, report, held, changes);
-    let written = slot_written(b, report, held, changes);
-    let left = some_leaves(b, report, held, changes);
-    Outcome {
-        keep,
-        written,
-        changes,
-        left,
-    }
+    overlap + minute_warnings(after, h) + left_by_stop
 }

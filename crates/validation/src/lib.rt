@@ -1,73 +1,46 @@
-// Questions 4 and 6 to 9: what is asked of a report alone.
+// Questions 4 to 9 and 16: what is asked of a report and its unit's kind and powers.
 use quantities::Minute;
 use records::CREATE;
 use records::EVENT;
 use records::EXECUTED;
+use records::NEGATIVE_DERATING;
 use records::OFF_GRID;
 use records::PLANNED;
+use records::POSITIVE_DERATING;
 use records::STOP;
 use records::WITHDRAW;
+use records::ask;
 use report::Head;
 use report::Part;
+use rules::PowerRange;
+use rules::UnitHead;
 ghost use mathlib.Core.Path.{_≡_};
 ghost use mathlib.Core.Bool.{_&&_, _||_};
-ghost use lib.Dec.{eqb};
-ghost use Rattle.fields.specs.Lists.{pick, all};
-ghost use Rattle.report.specs.Report.{headOf, partsOf};
-ghost use Rattle.rules.specs.Records.{partTimes, powersInRange, begun};
 ghost use mathlib.Core.List.{[]};
-ghost use Rattle.rules.specs.Codes.{isLevelled};
-ghost use Rattle.rules.specs.Questions.{recordBy, fieldsPass, timesConsistent, quarterHour, partOnQuarter, question4, question7, question8};
+ghost use Rattle.report.specs.Report.{partsOf};
+ghost use Rattle.rules.specs.Records.{partTimes, begun};
+ghost use Rattle.rules.specs.Questions.{recordBy, quarterHour, partOnQuarter, deratingFits, question4, question6, question8, question16};
+ghost use Rattle.rules.specs.Judge.{validationNumber};
+ghost use Rattle.validation.specs.Parts.{answersOf, PartsAsked, validatedOf};
+
+// What is asked of each part: its times (question 4), its end on a quarter hour (7), its power (9), its derating (16).
+pub struct PartAnswers {
+    pub times: bool,
+    pub on_quarters: bool,
+    pub powers: bool,
+    pub deratings: bool,
+}
+
+// The number of the first "no" of questions 4 to 9, or 0, and question 16.
+pub struct Validated {
+    pub number: u8,
+    pub deratings: bool,
+}
 
 fn part_is_times(p: Part) -> bool
     ensures { λ r. ⌜ r ≡ partTimes p ⌝ }
 {
     quantities::is_time(p.period.start) & quantities::is_time(p.period.end)
-}
-
-fn parts_are_times(report: &[u8]) -> bool
-    ensures { λ r. ⌜ r ≡ all partTimes (partsOf (now (report .entry))) ⌝ }
-{
-    let k = report::head_of(report).part_count;
-    let mut ok = true;
-    for i in 0..k {
-        ok = ok & part_is_times(report::part_at(report, i));
-    }
-    ok
-}
-
-// Question 4, but for the parts.
-fn head_passes(h: Head) -> bool
-    ensures { λ r. ⌜ r ≡ fieldsPass h [] ⌝ }
-{
-    let r = records::record_by(h);
-    let zero = records::identifier_zero(r);
-    records::within(STOP, EVENT, h.record_type)
-        & records::within(CREATE, WITHDRAW, h.operation)
-        & (h.end_mark == PLANNED)
-        & records::fields_in_range(r)
-        & (!(h.record_type == EVENT) | ((h.operation == CREATE) & zero))
-}
-
-// Question 4.
-pub fn fields_pass(report: &[u8]) -> bool
-    ensures { λ r. ⌜ r ≡ question4 (now (report .entry)) ⌝ }
-{
-    head_passes(report::head_of(report)) & parts_are_times(report)
-}
-
-// Question 6.
-pub fn times_are_consistent(h: Head) -> bool
-    ensures { λ r. ⌜ r ≡ timesConsistent h ⌝ }
-{
-    let begun = h.start_mark == EXECUTED;
-    let past = h.period.start.0 <= h.stamp.0;
-    let event = begun & past & (h.period.end.0 == h.period.start.0);
-    let others = (h.period.start.0 < h.period.end.0)
-        & (h.stamp.0 < h.period.end.0)
-        & records::choose(begun, past, h.stamp.0 < h.period.start.0)
-        & (!(h.record_type == OFF_GRID) | begun);
-    records::choose(h.record_type == EVENT, event, others)
 }
 
 fn is_quarter_hour(m: Minute) -> bool
@@ -82,17 +55,65 @@ fn part_is_on_quarter(p: Part, stamp: Minute) -> bool
     (p.period.end.0 <= stamp.0) | is_quarter_hour(p.period.end)
 }
 
-fn parts_are_on_quarters(report: &[u8]) -> bool
-    ensures { λ r. ⌜ r ≡ all (partOnQuarter (headOf (now (report .entry)) .stamp)) (partsOf (now (report .entry))) ⌝ }
+fn derating_fits(range: PowerRange, record_type: u8, p: Part) -> bool
+    ensures { λ r. ⌜ r ≡ deratingFits range «record_type» p ⌝ }
 {
-    let h = report::head_of(report);
-    let k = h.part_count;
-    let stamp = h.stamp;
-    let mut ok = true;
+    let power = quantities::wide(quantities::size_of(p.power));
+    let max = quantities::wide(range.max);
+    let min = quantities::wide(range.min);
+    (!(record_type == POSITIVE_DERATING) | (power <= max))
+        & (!(record_type == NEGATIVE_DERATING) | (power + min <= max))
+}
+
+// One pass over the parts.
+fn ask_parts(report: &[u8], stamp: Minute, range: PowerRange, record_type: u8) -> PartAnswers
+    ensures { λ r. ⌜ r ≡ answersOf (partsOf (now (report .entry))) stamp range «record_type» ⌝ }
+{
+    let k = report::part_count(report);
+    let mut times = true;
+    let mut on_quarters = true;
+    let mut powers = true;
+    let mut deratings = true;
     for i in 0..k {
-        ok = ok & part_is_on_quarter(report::part_at(report, i), stamp);
+        let p = report::part_at(report, i);
+        times = times & part_is_times(p);
+        on_quarters = on_quarters & part_is_on_quarter(p, stamp);
+        powers = powers & quantities::is_signed_power(p.power);
+        deratings = deratings & derating_fits(range, record_type, p);
     }
-    ok
+    PartAnswers {
+        times,
+        on_quarters,
+        powers,
+        deratings,
+    }
+}
+
+// Question 4, but for the parts.
+fn head_passes(h: Head) -> bool
+    ensures { λ r. ⌜ r ≡ question4 h [] ⌝ }
+{
+    let r = records::record_by(h);
+    let zero = records::identifier_zero(r);
+    records::within(STOP, EVENT, h.record_type)
+        & records::within(CREATE, WITHDRAW, h.operation)
+        & (h.end_mark == PLANNED)
+        & records::fields_in_range(r)
+        & (!(h.record_type == EVENT) | ((h.operation == CREATE) & zero))
+}
+
+// Question 6.
+fn times_are_consistent(h: Head) -> bool
+    ensures { λ r. ⌜ r ≡ question6 h ⌝ }
+{
+    let begun = h.start_mark == EXECUTED;
+    let past = h.period.start.0 <= h.stamp.0;
+    let event = begun & past & (h.period.end.0 == h.period.start.0);
+    let others = (h.period.start.0 < h.period.end.0)
+        & (h.stamp.0 < h.period.end.0)
+        & records::choose(begun, past, h.stamp.0 < h.period.start.0)
+        & (!(h.record_type == OFF_GRID) | begun);
+    records::choose(h.record_type == EVENT, event, others)
 }
 
 // Question 7, but for the parts.
@@ -103,45 +124,43 @@ fn head_is_on_quarters(h: Head) -> bool
     is_quarter_hour(h.period.end) & (begun | is_quarter_hour(h.period.start))
 }
 
-// Question 7.
-pub fn ends_are_on_quarters(report: &[u8]) -> bool
-    ensures { λ r. ⌜ r ≡ question7 (now (report .entry)) ⌝ }
+// Question 8.
+fn parts_pass(h: Head, report: &[u8]) -> bool
+    ensures { λ r. ⌜ r ≡ question8 h (partsOf (now (report .entry))) ⌝ }
 {
-    let h = report::head_of(report);
-    (h.record_type == EVENT) | (head_is_on_quarters(h) & parts_are_on_quarters(report))
+    let empty = report::part_count(report) == 0;
+    if (h.operation == WITHDRAW) | !records::is_levelled(h.record_type) {
+        return empty;
+    }
+    report::parts_cover(report, h.period)
 }
 
-// Question 8, of the head, the number of parts and whether they cover the period.
-fn choose_parts(h: Head, cover: bool) -> bool
-    ensures { λ r. ⌜ r ≡ pick (eqb (h .operation) 3) (eqb (h .«part_count») 0) (pick (isLevelled (h .«record_type»)) cover (eqb (h .«part_count») 0)) ⌝ }
+// Questions 4 to 9, after what was asked of each part.
+fn validation_number(kind: u8, h: Head, report: &[u8], parts: PartAnswers) -> u8
+    requires { ⌜ PartsAsked (partsOf (now report)) (h .stamp) parts ⌝ }
+    ensures { λ r. ⌜ r ≡ validationNumber kind h (partsOf (now (report .entry))) 0 ⌝ }
 {
-    let empty = h.part_count == 0;
-    let levelled = records::is_levelled(h.record_type);
-    records::choose(
-        h.operation == WITHDRAW,
-        empty,
-        records::choose(levelled, cover, empty),
+    let r = records::record_by(h);
+    let fields = head_passes(h) & parts.times;
+    let quarters = (h.record_type == EVENT) | (head_is_on_quarters(h) & parts.on_quarters);
+    let from_8 = ask(h, 8, parts_pass(h, report), ask(h, 9, parts.powers, 0));
+    let from_6 = ask(h, 6, times_are_consistent(h), ask(h, 7, quarters, from_8));
+    ask(
+        h,
+        4,
+        fields,
+        ask(h, 5, records::kind_allows(kind, r), from_6),
     )
 }
 
-// Question 8.
-pub fn parts_pass(report: &[u8]) -> bool
-    ensures { λ r. ⌜ r ≡ question8 (now (report .entry)) ⌝ }
+// Questions 4 to 9, and 16.
+pub fn validate(unit: UnitHead, h: Head, report: &[u8]) -> Validated
+    ensures { λ r. ⌜ r ≡ validatedOf unit h (partsOf (now (report .entry))) ⌝ }
 {
-    let h = report::head_of(report);
-    let period = h.period;
-    choose_parts(h, report::parts_cover(report, period))
-}
-
-// Question 9.
-pub fn powers_pass(report: &[u8]) -> bool
-    ensures { λ r. ⌜ r ≡ powersInRange (partsOf (now (report .entry))) ⌝ }
-{
-    let k = report::head_of(report).part_count;
-    let mut ok = true;
-    for i in 0..k {
-        let p = report::part_at(report, i);
-        ok = ok & quantities::is_signed_power(p.power);
+    let range = records::range_of(unit.powers, h.direction);
+    let parts = ask_parts(report, h.stamp, range, h.record_type);
+    Validated {
+        number: validation_number(unit.kind, h, report, parts),
+        deratings: parts.deratings,
     }
-    ok
 }

@@ -1,22 +1,26 @@
-use Prim.Native.Nat.{ℕ, _≤_, _-_}
-use mathlib.Core.Path.{_≡_, refl, ap, sym, _∙_}
-use native.Mathlib.Omega.{arith}
 use borrow.Author.Needs.{needs}
-use Rattle.judge.proofs.Joins.{FreeSought, free-none, free-hit, free-miss, free-all}
+use native.Mathlib.Omega.{arith}
+use Prim.Native.Nat.{_-_}
+use mathlib.Core.Bool.{false, not}
+use lib.ListN.{getD}
+use Rattle.judge.proofs.Joins.{Sought, sought-none, sought-hit, sought-miss, sought-all, found-free}
 use Rattle.judge.proofs.lowest_free.Statement.{statement}
 use Rattle.judge.proofs.lowest_free.Tie as tie
 
 abbrev Inv-loop : tie.InvT-loop
-Inv-loop b report held changes i₀ i = FreeSought b report i
+Inv-loop stays i₀ i = Sought (λ j. not (getD stays j false)) i
 
 abbrev μ-loop : tie.MeasureT-loop
-μ-loop b report held changes i₀ i = 8 - i
+μ-loop stays i₀ i = 8 - i
 
 returns : tie.Need-returns Inv-loop μ-loop
-returns c = free-hit (c .before .before .before .loop .inv) (omega arith) (c .before .stays-at .ensures) (c .if1 .taken)
+returns c = found-free _ (sought-hit (c .before .before .loop .inv) (c .before .loop-test .taken) (c .if1 .taken))
 
 loop-again : tie.Need-loop-again Inv-loop μ-loop
-loop-again c = free-miss (c .before .before .before .loop .inv) (omega arith) (c .before .stays-at .ensures) (c .if1 .left)
+loop-again c = sought-miss (c .before .before .loop .inv) (c .before .loop-test .taken) (c .if1 .left)
+
+returns-2 : tie.Need-returns-2 Inv-loop μ-loop
+returns-2 c = found-free _ (sought-all (c .before .loop .inv) (c .loop-test .left))
 
 pub lowest-free-spec : {M : Type 1} → statement M
 lowest-free-spec =
@@ -24,10 +28,11 @@ lowest-free-spec =
     (tie.spec
     Inv-loop
     μ-loop
-    (λ c. free-none _ _)
-    (λ c κs. c .before .before .before .before .pre)
+    (λ c. sought-none _)
+    (λ c. search needs)
+    (λ c. search needs)
     returns
     (λ c. search needs)
     (λ c. search needs)
     loop-again
-    (λ c. free-all (c .before .loop .inv) (omega arith)))
+    returns-2)

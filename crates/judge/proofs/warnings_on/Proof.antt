@@ -1,22 +1,19 @@
-use Rattle.judge.proofs.Warnings.{no-warnings, all-warnings}
+use native.Mathlib.Omega.{arith}
 use mathlib.Core.Path.{ap, _∙_}
 use Rattle.rules.specs.After.{worth}
+use Rattle.judge.proofs.Warnings.{no-warnings, all-warnings}
 use borrow.Author.Needs.{needs}
 use Rattle.judge.proofs.warnings_on.Statement.{statement}
 use Rattle.judge.proofs.warnings_on.Tie as tie
 
-returns : tie.Need-returns
-returns c = no-warnings _ _ (c .before .before .before .head-of .ensures) _ (c .if1 .taken)
-
 returns-2 : tie.Need-returns-2
-returns-2 c = all-warnings _ _ (c .before .before .before .before .before .before .before .before .head-of .ensures) _ (c .before .before .before .before .before .if1 .left) (c .before .before .before .worth-of .ensures .0 ∙ ap (worth 1) (c .before .before .before .before .warns-overlap .ensures)) (c .before .worth-of2 .ensures .0) (c .minute-warnings .ensures .0)
+returns-2 c = all-warnings _ _ _ (c .before .before .before .before .before .if1 .left) (c .before .before .before .worth-of .ensures .0 ∙ ap (worth 1) (c .before .before .before .before .warns-overlap .ensures)) (c .before .worth-of2 .ensures .0) (c .minute-warnings .ensures .0)
 
 pub warnings-on-spec : {M : Type 1} → statement M
 warnings-on-spec =
     tie.close
     (tie.spec
-    (λ c κs. search needs)
-    returns
+    (λ c. no-warnings _ _ _ (c .if1 .taken))
     (λ c κs. search needs)
     (λ c κs. search needs)
     (λ c κs. search needs)
