@@ -21,7 +21,8 @@ use rules::RosterEntry;
 use rules::Row;
 use rules::UnitHead;
 ghost use mathlib.Core.Path.{_≡_};
-ghost use mathlib.Core.Bool.{not, _||_};
+ghost use mathlib.Core.Bool.{not, _&&_, _||_};
+ghost use lib.Dec.{eqb};
 ghost use Prim.Native.Nat.{_+_, _*_, _≤_, _<_};
 ghost use lib.ListN.{length};
 ghost use Rattle.fields.specs.Fields.{u8At, u16At, u32At};
@@ -212,14 +213,21 @@ pub fn pair_at(z: &[u8], j: u16) -> Pair
     Pair { end, power }
 }
 
+fn higher(x: u8, y: u8) -> u8
+    ensures { λ r. ⌜ eqb r 0 ≡ (eqb x 0 && eqb y 0) ⌝ }
+{
+    if x < y { y } else { x }
+}
+
+// By the highest byte: many at once, without a branch.
 fn all_zero(z: &[u8]) -> bool
     ensures { λ r. ⌜ r ≡ zerosAt (now (z .entry)) 0 (length (now (z .entry))) ⌝ }
 {
-    let mut ok = true;
+    let mut highest: u8 = 0;
     for i in 0..z.len() {
-        ok = ok & (z[i] == 0);
+        highest = higher(highest, z[i]);
     }
-    ok
+    highest == 0
 }
 
 // A byte past the end counts as 0.

@@ -22,8 +22,9 @@ use Rattle.levels.specs.declared.LaneSpan.{LaneSpan}
 use Rattle.levels.specs.declared.LevelSpan.{LevelSpan}
 use Rattle.levels.specs.declared.LevelsSpan.{LevelsSpan}
 use Rattle.levels.specs.declared.Swept.{Swept}
+use Rattle.levels.specs.declared.Turn.{Turn}
 use Rattle.levels.specs.Pairs.{pairOf, Passed}
-use Rattle.levels.specs.Lanes.{noLane, laneAt, laneBytes, lanePair, laneLevel, levelAmongLanes, Stepped, Placed, spanOf, noSpan, Spanned, laneLevels, levelsOf}
+use Rattle.levels.specs.Lanes.{noLane, laneAt, laneBytes, lanePair, laneLevel, levelAmongLanes, Stepped, Placed, Spanned, Turned, laneLevels, levelsOf}
 use Rattle.levels.specs.Counted.{sweptRecords}
 use Rattle.levels.specs.Stays.{Holds, Stays}
 use Rattle.levels.proofs.Spans.{sooner, holds-two, holds-by}
@@ -65,25 +66,6 @@ module _ (b s : List ℕ) {i : ℕ} (e : i ≡ 0 → ⊥) {z : List ℕ} (read :
   pub slot-stepped : (lane : Lane) {n m : ℕ} {r : LaneSpan} → Stepped (pairOf z false) n m (laneLevel lane (pairOf z false) (lane .«record_type»)) r → Stepped (lanePair b s i) n m (laneLevel lane (lanePair b s i) (lane .«record_type»)) r
   slot-stepped lane {n} {m} {r} h = subst (λ f. Stepped f n m (laneLevel lane f (lane .«record_type»)) r) (sym slot-pair) h
 
--- types 2 to 4 have a place among the three levels, and no other type
-module _ (type : ℕ) where
-  pub levelled-span : {t : Bool} → t ≡ isLevelled type → t ≡ true → (2 ≤ type) × (type ≤ 4)
-  levelled-span e f = range-true 2 4 type (sym e ∙ f)
-
-  pub span-type : {t : ℕ} → t ≡ spanOf type → t < 3 → type ≡ positiveDerating + t
-  unfolding spanOf
-  span-type {t} e l =
-      pick-elim (λ (k : ℕ). t ≡ k → type ≡ positiveDerating + t) (isLevelled type)
-      (λ y q. let range = range-true 2 4 type y in omega arith)
-      (λ n q. absurd (omega arith)) e
-
-  pub span-none : {t u : ℕ} → t ≡ spanOf type → 3 ≤ t → u < 3 → type ≡ positiveDerating + u → ⊥
-  unfolding spanOf
-  span-none {t} {u} e l o q =
-      pick-elim (λ (k : ℕ). t ≡ k → ⊥) (isLevelled type)
-      (λ y k. let range = range-true 2 4 type y in omega arith)
-      (λ n k. false≢true (sym n ∙ range-intro 2 4 type (omega arith) (omega arith))) e
-
 none-passed : (n i : ℕ) → getD {A = ℕ} (replicate n 0) i 0 ≡ 0
 none-passed zero i = refl
 none-passed (suc n) zero = refl
@@ -103,19 +85,12 @@ module _ (b s : List ℕ) (lanes : List Lane) where
       }
 
   -- the lanes from i on, counted down
-  pub spanned-none : {v : LevelSpan} {far : Minute} {m : ℕ} → v .level ≡ noLevel → v .until ≡ far → m < far .0 → Spanned b s lanes 9 (9 - 9) m (v ∷ v ∷ v ∷ [])
+  pub spanned-none : {v : LevelSpan} {far : Minute} {m : ℕ} → v .level ≡ noLevel → v .until ≡ far → m < far .0 → Spanned b s lanes 9 (9 - 9) m v v v
   unfolding levelAmongLanes
-  spanned-none {v} {far} {m} e q o = record { of = each } where
-    none : (type : ℕ) → Stays (levelAmongLanes b s lanes type 9 0) m v
-    none type =
-        let until : v .until .0 ≡ far .0 = ap (λ (x : Minute). x .0) q in
-        record { later = omega arith; same = λ k a b. sym e }
-
-    each : (t : ℕ) → t < 3 → Stays (levelAmongLanes b s lanes (positiveDerating + t) 9 0) m (getD (v ∷ v ∷ v ∷ []) t noSpan)
-    each zero l = none 2
-    each (suc zero) l = none 3
-    each (suc (suc zero)) l = none 4
-    each (suc (suc (suc t))) l = absurd (omega arith)
+  spanned-none {v} {far} {m} e q o =
+      let until : v .until .0 ≡ far .0 = ap (λ (x : Minute). x .0) q in
+      let none : (type : ℕ) → Stays (levelAmongLanes b s lanes type 9 0) m v = λ type. record { later = omega arith; same = λ k a b. sym e } in
+      record { positives = none 2; negatives = none 3; forceds = none 4 }
 
   module _ {i : ℕ} (some : 0 < i) (few : i ≤ 9) {lane : Lane} (read : lane ≡ getD lanes (i - 1) noLane) where
     down : (type k : ℕ) → levelAmongLanes b s lanes type (i - 1) (9 - (i - 1)) k ≡ orElse (laneLevel lane (lanePair b s (i - 1)) type k) (levelAmongLanes b s lanes type i (9 - i) k)
@@ -130,36 +105,63 @@ module _ (b s : List ℕ) (lanes : List Lane) where
     unfolding laneLevel pick
     another type ne h = holds-by h (λ k. down type k ∙ rw (ne-eqb (lane .«record_type») type ne))
 
-    pub spanned-passed : {t : ℕ} {spans : List LevelSpan} {m : ℕ} → t ≡ spanOf (lane .«record_type») → 3 ≤ t → Spanned b s lanes i (9 - i) m spans → Spanned b s lanes (i - 1) (9 - (i - 1)) m spans
-    spanned-passed e f h = record { of = λ u l. another (positiveDerating + u) (span-none (lane .«record_type») e f l) (h .of u l) }
+    -- a lane of this type comes before the others
+    own : {span v first : LevelSpan} {m : ℕ} (type : ℕ) → lane .«record_type» ≡ type → Stays (laneLevel lane (lanePair b s (i - 1)) (lane .«record_type»)) m span → first .level ≡ orElse (span .level) (v .level) → first .until ≡ earlierOf (span .until) (v .until) → Stays (levelAmongLanes b s lanes type i (9 - i)) m v → Stays (levelAmongLanes b s lanes type (i - 1) (9 - (i - 1))) m first
+    own {span} {v} {first} {m} type q p e u h =
+        subst (λ v. Holds (levelAmongLanes b s lanes type (i - 1) (9 - (i - 1))) m v (first .until .0)) (sym e)
+        (holds-by
+        (holds-two orElse (subst (λ (type : ℕ). Holds (laneLevel lane (lanePair b s (i - 1)) type) m (span .level) (span .until .0)) q p) h (sooner u))
+        (down type))
 
-    pub spanned-set : {span first : LevelSpan} {t m : ℕ} {spans : List LevelSpan} → length spans ≡ 3 → t ≡ spanOf (lane .«record_type») → t < 3 → Stays (laneLevel lane (lanePair b s (i - 1)) (lane .«record_type»)) m span → first .level ≡ orElse (span .level) (getD spans t noSpan .level) → first .until ≡ earlierOf (span .until) (getD spans t noSpan .until) → Spanned b s lanes i (9 - i) m spans → Spanned b s lanes (i - 1) (9 - (i - 1)) m (set spans t first)
-    spanned-set {span} {first} {t} {m} {spans} n asked l p e q h =
-        let own = span-type (lane .«record_type») asked l in
-        record {
-          of = set-keeps (λ u span. u < 3 → Stays (levelAmongLanes b s lanes (positiveDerating + u) (i - 1) (9 - (i - 1))) m span) spans noSpan t first (omega arith)
-              (λ _.
-              subst (λ v. Holds (levelAmongLanes b s lanes (positiveDerating + t) (i - 1) (9 - (i - 1))) m v (first .until .0)) (sym e)
-              (holds-by
-              (holds-two orElse (subst (λ (type : ℕ). Holds (laneLevel lane (lanePair b s (i - 1)) type) m (span .level) (span .until .0)) own p) (h .of t l) (sooner q))
-              (down (positiveDerating + t))))
-              (λ u ne o. another (positiveDerating + u) (λ q. ne (omega arith)) (h .of u o));
+    module _ {positive negative forced : LevelSpan} {m : ℕ} (h : Spanned b s lanes i (9 - i) m positive negative forced) where
+      pub spanned-passed : {t : Bool} → t ≡ isLevelled (lane .«record_type») → t ≡ false → Spanned b s lanes (i - 1) (9 - (i - 1)) m positive negative forced
+      spanned-passed e f =
+          let other : (type : ℕ) → 2 ≤ type → type ≤ 4 → lane .«record_type» ≡ type → ⊥ = λ type l o q. false≢true (sym f ∙ e ∙ range-intro 2 4 (lane .«record_type») (omega arith) (omega arith)) in
+          record {
+            positives = another 2 (other 2 (omega arith) (omega arith)) (h .positives);
+            negatives = another 3 (other 3 (omega arith) (omega arith)) (h .negatives);
+            forceds = another 4 (other 4 (omega arith) (omega arith)) (h .forceds);
+          }
+
+      module _ {span first : LevelSpan} (p : Stays (laneLevel lane (lanePair b s (i - 1)) (lane .«record_type»)) m span) where
+        pub spanned-forced : lane .«record_type» ≡ 4 → first .level ≡ orElse (span .level) (forced .level) → first .until ≡ earlierOf (span .until) (forced .until) → Spanned b s lanes (i - 1) (9 - (i - 1)) m positive negative first
+        spanned-forced t e u = record {
+          positives = another 2 (λ q. omega arith) (h .positives);
+          negatives = another 3 (λ q. omega arith) (h .negatives);
+          forceds = own 4 t p e u (h .forceds);
         }
 
--- the three levels of all lanes, and that of forced work
-module _ (b s : List ℕ) (lanes : List Lane) {m : ℕ} {spans : List LevelSpan} (h : Spanned b s lanes 0 9 m spans) where
-  pub forced-level : Stays (λ k. laneLevels b s lanes k .forced) m (getD spans 2 noSpan)
-  unfolding laneLevels
-  forced-level = h .of 2 (omega arith)
+        pub spanned-positive : lane .«record_type» ≡ 2 → first .level ≡ orElse (span .level) (positive .level) → first .until ≡ earlierOf (span .until) (positive .until) → Spanned b s lanes (i - 1) (9 - (i - 1)) m first negative forced
+        spanned-positive t e u = record {
+          positives = own 2 t p e u (h .positives);
+          negatives = another 3 (λ q. omega arith) (h .negatives);
+          forceds = another 4 (λ q. omega arith) (h .forceds);
+        }
 
-  pub three-levels : {r : LevelsSpan} → r ≡ levelsOf spans → Holds (laneLevels b s lanes) m (r .levels) (r .until .0)
+        pub spanned-negative : {t : Bool} → t ≡ isLevelled (lane .«record_type») → t ≡ true → (lane .«record_type» ≡ 4 → ⊥) → (lane .«record_type» ≡ 2 → ⊥) → first .level ≡ orElse (span .level) (negative .level) → first .until ≡ earlierOf (span .until) (negative .until) → Spanned b s lanes (i - 1) (9 - (i - 1)) m positive first forced
+        spanned-negative a y no-forced no-positive e u =
+            let range = range-true 2 4 (lane .«record_type») (sym a ∙ y) in
+            let t : lane .«record_type» ≡ 3 = omega arith in
+            record {
+              positives = another 2 no-positive (h .positives);
+              negatives = own 3 t p e u (h .negatives);
+              forceds = another 4 no-forced (h .forceds);
+            }
+
+-- the three levels of all lanes, and that of forced work
+module _ (b s : List ℕ) (lanes : List Lane) {m : ℕ} {turn : Turn} (h : Turned b s lanes m turn) where
+  pub forced-level : Stays (λ k. laneLevels b s lanes k .forced) m (turn .forced)
+  unfolding laneLevels
+  forced-level = h .spanned .forceds
+
+  pub three-levels : {r : LevelsSpan} → r ≡ levelsOf turn → Holds (laneLevels b s lanes) m (r .levels) (r .until .0)
   unfolding laneLevels
   three-levels {r} e =
       let as-levels : Level → Level → Level → Levels = λ x y z. record { forced = x; positive = y; negative = z } in
       let apply : (Level → Levels) → Level → Levels = λ f z. f z in
       subst (λ (r : LevelsSpan). Holds (laneLevels b s lanes) m (r .levels) (r .until .0)) (sym e)
       (holds-by
-      (holds-two apply (holds-two as-levels (h .of 2 (omega arith)) (h .of 0 (omega arith)) (sooner refl)) (h .of 1 (omega arith)) (sooner refl))
+      (holds-two apply (holds-two as-levels (h .spanned .forceds) (h .spanned .positives) (sooner refl)) (h .spanned .negatives) (sooner refl))
       (λ k. refl))
 
 -- they are those of the records that count

@@ -10,7 +10,7 @@ use Rattle.report.specs.Report.{partCount}
 use Rattle.rules.specs.declared.Level.{Level}
 use Rattle.rules.specs.declared.Levels.{Levels}
 use Rattle.rules.specs.declared.Record.{Record}
-use Rattle.rules.specs.Codes.{positiveDerating, negativeDerating, forcedWork, isLevelled}
+use Rattle.rules.specs.Codes.{positiveDerating, negativeDerating, forcedWork}
 use Rattle.rules.specs.Block.{slotAt, storedCount}
 use Rattle.rules.specs.Questions.{recordOf, recordAt}
 use Rattle.rules.specs.Minutes.{noLevel, orElse}
@@ -79,28 +79,19 @@ pub record Stepped (f : ℕ → Pair) (n m : ℕ) (level : ℕ → Level) (r : L
 pub record Placed (b s : List ℕ) (lanes : List Lane) (places : List ℕ) (m : ℕ) : Type 0 where
   pub at : (i : ℕ) → i < 9 → Passed (lanePair b s i) (getD lanes i noLane .count) (getD places i 0) m
 
--- the place of a type's level among those of types 2, 3 and 4, or 3
-unfoldable pub spanOf : ℕ → ℕ
-spanOf type = pick (isLevelled type) (type - positiveDerating) 3
-
-abbrev pub noSpan : LevelSpan
-noSpan = record { level = noLevel; until = record { 0 = 0 } }
-
--- the levels of types 2, 3 and 4 among the lanes i, i + 1, .. , n of them
-pub record Spanned (b s : List ℕ) (lanes : List Lane) (i n m : ℕ) (spans : List LevelSpan) : Type 0 where
-  pub of : (t : ℕ) → t < 3 → Stays (levelAmongLanes b s lanes (positiveDerating + t) i n) m (getD spans t noSpan)
+-- the levels of each type among the lanes i, i + 1, .. , n of them
+pub record Spanned (b s : List ℕ) (lanes : List Lane) (i n m : ℕ) (positive negative forced : LevelSpan) : Type 0 where
+  pub positives : Stays (levelAmongLanes b s lanes positiveDerating i n) m positive
+  pub negatives : Stays (levelAmongLanes b s lanes negativeDerating i n) m negative
+  pub forceds : Stays (levelAmongLanes b s lanes forcedWork i n) m forced
 
 pub record Turned (b s : List ℕ) (lanes : List Lane) (m : ℕ) (r : Turn) : Type 0 where
-  pub spanned : Spanned b s lanes 0 9 m (r .spans)
+  pub spanned : Spanned b s lanes 0 9 m (r .positive) (r .negative) (r .forced)
   pub placed : Placed b s lanes (r .places) m
 
 -- the three levels, up to the first change of one
-abbrev pub levelsOf : List LevelSpan → LevelsSpan
-levelsOf spans = record {
-  levels = record {
-    forced = getD spans 2 noSpan .level;
-    positive = getD spans 0 noSpan .level;
-    negative = getD spans 1 noSpan .level;
-  };
-  until = earlierOf (earlierOf (getD spans 2 noSpan .until) (getD spans 0 noSpan .until)) (getD spans 1 noSpan .until);
+abbrev pub levelsOf : Turn → LevelsSpan
+levelsOf turn = record {
+  levels = record { forced = turn .forced .level; positive = turn .positive .level; negative = turn .negative .level };
+  until = earlierOf (earlierOf (turn .forced .until) (turn .positive .until)) (turn .negative .until);
 }

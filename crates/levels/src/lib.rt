@@ -3,6 +3,7 @@ use block::Pair;
 use quantities::Kilowatt;
 use quantities::Minute;
 use quantities::Period;
+use records::FORCED_WORK;
 use records::M1;
 use records::POSITIVE_DERATING;
 use records::W1;
@@ -18,7 +19,7 @@ ghost use Rattle.quantities.specs.Quantities.{earlierOf};
 ghost use Rattle.rules.specs.Minutes.{noLevel, orElse, fitsW1M1, fitsZ1, levelsFit, aboveMax, belowMin};
 ghost use Rattle.levels.specs.Pairs.{pairOf, levelAmongPairs, Passed};
 ghost use Rattle.levels.specs.Counted.{sweptRecords};
-ghost use Rattle.levels.specs.Lanes.{noLane, laneOf, reportLane, slotLane, laneAt, lanePair, laneLevel, laneLevels, spanOf, levelsOf, Stepped, Placed, Turned};
+ghost use Rattle.levels.specs.Lanes.{noLane, laneOf, reportLane, slotLane, laneAt, lanePair, laneLevel, laneLevels, levelsOf, Stepped, Placed, Turned};
 ghost use Rattle.levels.specs.Result.{withSpan, foundIn, sweepResult};
 
 // A level, and a later minute up to which it stays.
@@ -54,7 +55,9 @@ pub struct LaneSpan {
 
 // The levels of positive deratings, negative deratings and forced work in a minute, and the lanes' places.
 pub struct Turn {
-    pub spans: [LevelSpan; 3],
+    pub positive: LevelSpan,
+    pub negative: LevelSpan,
+    pub forced: LevelSpan,
     pub places: [u16; 9],
 }
 
@@ -218,52 +221,49 @@ fn first_of(a: LevelSpan, b: LevelSpan) -> LevelSpan
     LevelSpan { level, until }
 }
 
-// The place of a type's level among the three, or 3.
-fn span_of(record_type: u8) -> usize
-    ensures { λ r. ⌜ r ≡ spanOf «record_type» ⌝ }
-{
-    if records::is_levelled(record_type) {
-        (record_type - POSITIVE_DERATING) as usize
-    } else {
-        3
-    }
-}
-
 // The three levels in a minute, from the last lane to the first, each looked up from the lane's place on.
 fn step_lanes(b: &[u8], report: &[u8], lanes: [Lane; 9], places: [u16; 9], m: Minute) -> Turn
     requires { ⌜ m .0 < 4294967295 ⌝ }
     requires { ⌜ Placed (now b) (now report) lanes places (m .0) ⌝ }
     ensures { λ r. ⌜ Turned (now (b .entry)) (now (report .entry)) lanes (m .0) r ⌝ }
 {
-    let none = none_until(Minute(4294967295));
-    let mut spans = [none; 3];
+    let mut positive = none_until(Minute(4294967295));
+    let mut negative = positive;
+    let mut forced = positive;
     let mut places = places;
     let mut i: u8 = 9;
     while 0 < i {
         i -= 1;
         let lane = lanes[i as usize];
-        let t = span_of(lane.record_type);
-        if t < 3 {
+        if records::is_levelled(lane.record_type) {
             let step = step_lane(b, report, i, lane, places[i as usize], m);
             places[i as usize] = step.place;
-            let first = first_of(step.span, spans[t]);
-            spans[t] = first;
+            if lane.record_type == FORCED_WORK {
+                forced = first_of(step.span, forced);
+            } else if lane.record_type == POSITIVE_DERATING {
+                positive = first_of(step.span, positive);
+            } else {
+                negative = first_of(step.span, negative);
+            }
         }
     }
-    Turn { spans, places }
+    Turn {
+        positive,
+        negative,
+        forced,
+        places,
+    }
 }
 
-fn levels_of(spans: [LevelSpan; 3]) -> LevelsSpan
-    ensures { λ r. ⌜ r ≡ levelsOf spans ⌝ }
+// The three levels, up to the first change of one.
+fn levels_of(turn: Turn) -> LevelsSpan
+    ensures { λ r. ⌜ r ≡ levelsOf turn ⌝ }
 {
-    let p = spans[0];
-    let n = spans[1];
-    let f = spans[2];
-    let forced = f.level;
-    let positive = p.level;
-    let negative = n.level;
-    let sooner = quantities::earlier(f.until, p.until);
-    let until = quantities::earlier(sooner, n.until);
+    let forced = turn.forced.level;
+    let positive = turn.positive.level;
+    let negative = turn.negative.level;
+    let sooner = quantities::earlier(turn.forced.until, turn.positive.until);
+    let until = quantities::earlier(sooner, turn.negative.until);
     let levels = Levels {
         forced,
         positive,
@@ -355,10 +355,9 @@ fn sweep_lanes(
     while m.0 < end.0 {
         let turn = step_lanes(b, report, lanes, places, m);
         places = turn.places;
-        let spans = turn.spans;
-        let forced = spans[2];
+        let forced = turn.forced;
         if forced.level.there {
-            let span = levels_of(spans);
+            let span = levels_of(turn);
             let levels = span.levels;
             g = add_span(g, kind, range, levels);
             m = quantities::earlier(span.until, end);

@@ -1,3 +1,4 @@
+use native.Mathlib.Omega.{arith}
 use borrow.Author.Needs.{needs}
 use Rattle.levels.proofs.levels_of.Statement.{statement}
 use Rattle.levels.proofs.levels_of.Tie as tie
@@ -6,9 +7,6 @@ pub levels-of-spec : {M : Type 1} → statement M
 levels-of-spec =
     tie.close
     (tie.spec
-    (λ c. search needs)
-    (λ c. search needs)
-    (λ c. search needs)
     (λ c κs. search needs)
     (λ c κs. search needs)
     (λ c. cc))
