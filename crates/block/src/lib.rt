@@ -21,8 +21,7 @@ use rules::RosterEntry;
 use rules::Row;
 use rules::UnitHead;
 ghost use mathlib.Core.Path.{_≡_};
-ghost use mathlib.Core.Bool.{not, _&&_, _||_};
-ghost use lib.Dec.{eqb};
+ghost use mathlib.Core.Bool.{not, _||_};
 ghost use Prim.Native.Nat.{_+_, _*_, _≤_, _<_};
 ghost use lib.ListN.{length};
 ghost use Rattle.fields.specs.Fields.{u8At, u16At, u32At};
@@ -213,21 +212,14 @@ pub fn pair_at(z: &[u8], j: u16) -> Pair
     Pair { end, power }
 }
 
-fn higher(x: u8, y: u8) -> u8
-    ensures { λ r. ⌜ eqb r 0 ≡ (eqb x 0 && eqb y 0) ⌝ }
-{
-    if x < y { y } else { x }
-}
-
-// By the highest byte: many at once, without a branch.
 fn all_zero(z: &[u8]) -> bool
     ensures { λ r. ⌜ r ≡ zerosAt (now (z .entry)) 0 (length (now (z .entry))) ⌝ }
 {
-    let mut highest: u8 = 0;
+    let mut ok = true;
     for i in 0..z.len() {
-        highest = higher(highest, z[i]);
+        ok = ok & (z[i] == 0);
     }
-    highest == 0
+    ok
 }
 
 // A byte past the end counts as 0.
