@@ -18,7 +18,7 @@ use Rattle.log.specs.declared.Progress.{Progress}
 use Rattle.log.specs.declared.Logged.{Logged}
 use Rattle.log.specs.Log.{isClean, isWarned, isRefused, countOf, totalsOf, logLine, totalsLine}
 use Rattle.log.proofs.Texts.{Line}
-use Rattle.log.specs.Run.{mostCounted, oneMore, countAnswer, progressAfter, atStart, nextLine, loggedAfter, logFrom, linesOf, logOf, statedLength}
+use Rattle.log.specs.Run.{mostCounted, oneMore, countAnswer, progressAfter, atStart, nextLine, loggedAt, loggedWith, logFrom, linesOf, logOf, statedLength}
 
 pub one-more : (n : ℕ) → n < mostCounted → oneMore n ≡ n + 1
 unfolding pick
@@ -85,9 +85,9 @@ log-of-list register ss room =
     rw (zero-add (countOf isClean as-answered), zero-add (countOf isWarned as-answered), zero-add (countOf isRefused as-answered))
     at (log-from ss atStart register (omega (arith, room)) (record { clean = omega arith; warned = omega arith; refused = omega arith }))
 
--- a step of the log
-pub logged : (so-far : Progress) (s : List ℕ) (a given : Answer) (lines n : ℕ) (t : Totals) (here there : List ℕ) → a ≡ given → lines ≡ oneMore (so-far .lines) → Line here (logLine lines s a) there n → t ≡ countAnswer (so-far .totals) a → (record { progress = record { lines = lines; totals = t }; length = n; ends = eqb (a .number) 2 } ≡ loggedAfter so-far s given) × (there ≡ put here 0 (nextLine so-far s given))
-logged so-far s a given lines n t here there same next p count = rw (← same) (rw (p .0, count, next), p .1 ∙ rw next)
+-- a step of the log, whichever line is written
+pub logged : (line : ℕ → List ℕ → Answer → List ℕ) (so-far : Progress) (s : List ℕ) {a given : Answer} {p : Progress} {n : ℕ} (here there : List ℕ) → a ≡ given → p ≡ progressAfter so-far a → Line here (line (p .lines) s a) there n → {l : Logged} → l ≡ loggedAt p a n → (l ≡ loggedWith (line (oneMore (so-far .lines)) s given) so-far given) × (there ≡ put here 0 (line (oneMore (so-far .lines)) s given))
+logged line so-far s here there same next p all = rw (← same) (all ∙ rw (p .0, next), p .1 ∙ rw next)
 
 -- a report's length by its own k and t
 module _ (s : List ℕ) (k t : ℕ) where

@@ -18,7 +18,7 @@ use Rattle.calendar.specs.Calendar.{digit, dateOf, dateText, printed}
 use Rattle.report.specs.Report.{headOf}
 use Rattle.rules.specs.declared.Answer.{Answer}
 use Rattle.log.specs.declared.Totals.{Totals}
-use Rattle.log.specs.Log.{decimalBefore, decimal, space, lineFeed, faultLine, unitText, stampText, numberColumn, logLine, totalsLine}
+use Rattle.log.specs.Log.{decimalBefore, decimal, space, lineFeed, hyphen, faultLine, unitText, stampText, numberColumn, lineText, totalsLine}
 use Rattle.log.specs.Run.{mostCounted}
 
 -- `end` is the place after the text, and `there` has it at `at`
@@ -28,6 +28,10 @@ Put here at text there end = (end ≡ at + length text) × (there ≡ put here a
 pub put-then : (here there last : List ℕ) (at mid end : ℕ) (x y : List ℕ) → Put here at x there mid → Put there mid y last end → Put here at (x ++ y) last end
 put-then here there last at mid end x y p q =
     (q .0 ∙ rw (p .0, length-append x y) (omega arith), q .1 ∙ rw (p .1, p .0) (sym (put-append x y here at)))
+
+-- a text that equals another
+pub put-same : (here there : List ℕ) (at end : ℕ) {x y : List ℕ} → x ≡ y → Put here at x there end → Put here at y there end
+put-same here there at end e p = rw e at p
 
 -- a text copied byte by byte
 pub copied : (here there last word : List ℕ) (at j v : ℕ) → j < length word → there ≡ put here at (take j word) → v ≡ getD word j 0 → last ≡ put there (at + j) (v ∷ []) → last ≡ put here at (take (j + 1) word)
@@ -105,27 +109,32 @@ unfolding unitText pick
 unit-there here there at end number unit e p = rw e p
 
 module _ (here : List ℕ) (at number : ℕ) (stamp : Minute) {t : Bool} (test : t ≡ (not (eqb number 2) && isTime stamp)) where
-  pub stamp-missing : (there : List ℕ) (end : ℕ) → t ≡ false → Put here at (45 ∷ 10 ∷ []) there end → Put here at (stampText number stamp ++ lineFeed) there end
+  pub stamp-missing : (there : List ℕ) (end : ℕ) → t ≡ false → Put here at hyphen there end → Put here at (stampText number stamp) there end
   unfolding stampText pick
   stamp-missing there end e p = rw (sym test ∙ e) p
 
-  pub stamp-there : (mid there date : List ℕ) (between end : ℕ) → t ≡ true → date ≡ printed (replicate 16 0) stamp → Put here at date mid between → Put mid between lineFeed there end → Put here at (stampText number stamp ++ lineFeed) there end
+  pub stamp-there : (there date : List ℕ) (end : ℕ) → t ≡ true → date ≡ printed (replicate 16 0) stamp → Put here at date there end → Put here at (stampText number stamp) there end
   unfolding stampText pick
-  stamp-there mid there date between end e d p q =
+  stamp-there there date end e d p =
       let both : (not (eqb number 2) && isTime stamp) ≡ true = sym test ∙ e in
       let time : isTime stamp ≡ true = and-right (not (eqb number 2)) (isTime stamp) both in
       let same : date ≡ dateText (dateOf stamp) = d ∙ rw time in
-      rw (both, ← same) (put-then here mid there at between end date lineFeed p q)
+      rw (both, ← same) p
 
-pub line-put : (line : ℕ) (s : List ℕ) (a : Answer) (unit : ℕ) (stamp : Minute) (here t₁ t₂ t₃ t₄ t₅ : List ℕ) (e₁ e₂ e₃ e₄ e₅ : ℕ) → unit ≡ headOf s .unit → stamp ≡ headOf s .stamp → Put here 0 (numberColumn line) t₁ e₁ → Put t₁ e₁ (unitText (a .number) unit ++ space) t₂ e₂ → Put t₂ e₂ (numberColumn (a .number)) t₃ e₃ → Put t₃ e₃ (numberColumn (a .warnings)) t₄ e₄ → Put t₄ e₄ (stampText (a .number) stamp ++ lineFeed) t₅ e₅ → Line here (logLine line s a) t₅ e₅
-unfolding logLine
-line-put line s a unit stamp here t₁ t₂ t₃ t₄ t₅ e₁ e₂ e₃ e₄ e₅ same-unit same-stamp line-there unit-put number-put warnings-put stamp-put =
+pub line-text-put : (line : ℕ) (s : List ℕ) (a : Answer) (unit : ℕ) (stamp : Minute) (here t₁ t₂ t₃ t₄ t₅ : List ℕ) (e₁ e₂ e₃ e₄ e₅ : ℕ) → unit ≡ headOf s .unit → stamp ≡ headOf s .stamp → Put here 0 (numberColumn line) t₁ e₁ → Put t₁ e₁ (unitText (a .number) unit ++ space) t₂ e₂ → Put t₂ e₂ (numberColumn (a .number)) t₃ e₃ → Put t₃ e₃ (numberColumn (a .warnings)) t₄ e₄ → Put t₄ e₄ (stampText (a .number) stamp) t₅ e₅ → Line here (lineText line s a) t₅ e₅
+unfolding lineText
+line-text-put line s a unit stamp here t₁ t₂ t₃ t₄ t₅ e₁ e₂ e₃ e₄ e₅ same-unit same-stamp line-there unit-put number-put warnings-put stamp-put =
     let unit-of = rw same-unit at unit-put in
     let stamp-of = rw same-stamp at stamp-put in
     line-of _ _ _ _
     (put-then _ _ _ _ _ _ _ _
     (put-then _ _ _ _ _ _ _ _ (put-then _ _ _ _ _ _ _ _ (put-then _ _ _ _ _ _ _ _ line-there unit-of) number-put) warnings-put)
     stamp-of)
+
+-- a line that is there, and what comes after it
+pub line-then : (here there last : List ℕ) (mid end : ℕ) (x y : List ℕ) → Line here x there mid → Put there mid y last end → Line here (x ++ y) last end
+line-then here there last mid end x y p q =
+    line-of _ _ _ _ (put-then here there last 0 mid end x y (p .0 ∙ sym (zero-add (length x)), p .1) q)
 
 pub totals-put : (t : Totals) (here t₁ t₂ t₃ t₄ t₅ : List ℕ) (e₁ e₂ e₃ e₄ e₅ : ℕ) → Put here 0 (116 ∷ 111 ∷ 116 ∷ 97 ∷ 108 ∷ 32 ∷ []) t₁ e₁ → Put t₁ e₁ (numberColumn (t .clean)) t₂ e₂ → Put t₂ e₂ (numberColumn (t .warned)) t₃ e₃ → Put t₃ e₃ (decimal (t .refused)) t₄ e₄ → Put t₄ e₄ lineFeed t₅ e₅ → Line here (totalsLine t) t₅ e₅
 unfolding totalsLine

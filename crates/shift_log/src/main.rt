@@ -1,6 +1,10 @@
-// The shift log: roster entries and reports from standard input, the log to standard output.
+// The shift log: roster entries and reports from standard input, the log to standard output; with the argument `remarks`, each
+// report's remark beside its line.
+use libc::STDERR_FILENO;
 use libc::STDIN_FILENO;
 use libc::STDOUT_FILENO;
+use log::Logged;
+use log::Progress;
 use log::Totals;
 ghost use mathlib.Core.Path.{_≡_};
 ghost use Prim.Native.Nat.{_+_, _≤_};
@@ -21,17 +25,41 @@ struct Start {
 }
 
 fn main() {
+    let mut word = [0u8; 8];
+    let length = os::arg(1, &mut word);
+    let words = os::arg_count();
+    let remarks = (words == 2) & is_remarks(&word[..length]);
+    if (words > 1) & !remarks {
+        io::write_all(
+            STDERR_FILENO,
+            b"shift_log: the one argument that it takes is remarks\n",
+        );
+        return;
+    }
     let mut input = [0u8; 226];
     let mut register = [0u8; 57344];
     let mut report = [0u8; 1850];
-    let mut text = [0u8; 128];
-    log_input(&mut input, &mut register, &mut report, &mut text);
+    let mut text = [0u8; 1024];
+    log_input(&mut input, &mut register, &mut report, remarks, &mut text);
+}
+
+fn is_remarks(word: &[u8]) -> bool {
+    let remarks = b"remarks";
+    (word.len() == 7)
+        & (fields::u32_at(word, 0) == fields::u32_at(remarks, 0))
+        & (fields::u32_at(word, 3) == fields::u32_at(remarks, 3))
 }
 
 // After a failed read nothing is set up.
-fn log_input(input: &mut [u8], register: &mut [u8], report: &mut [u8], text: &mut [u8])
+fn log_input(
+    input: &mut [u8],
+    register: &mut [u8],
+    report: &mut [u8],
+    remarks: bool,
+    text: &mut [u8],
+)
     requires { ⌜ (length (now input) ≡ 226) × (length (now register) ≡ 57344) ⌝ }
-    requires { ⌜ (length (now report) ≡ 1850) × (length (now text) ≡ 128) ⌝ }
+    requires { ⌜ (length (now report) ≡ 1850) × (length (now text) ≡ 1024) ⌝ }
 {
     let start = read_roster(input);
     let ahead = start.ahead;
@@ -46,7 +74,7 @@ fn log_input(input: &mut [u8], register: &mut [u8], report: &mut [u8], text: &mu
         return;
     }
     fields::put_u16(report, 0, fields::u16_at(input, length));
-    log_reports(&mut register[..size], report, ahead, text);
+    log_reports(&mut register[..size], report, ahead, remarks, text);
 }
 
 // One read into the bytes from `at` to `to`. One that is interrupted has brought nothing; the last one then has failed.
@@ -168,25 +196,25 @@ fn read_next(report: &mut [u8], ends: bool) -> Input
 }
 
 // Nothing is written after a failure.
-fn log_reports(register: &mut [u8], report: &mut [u8], ahead: Input, text: &mut [u8])
-    requires { ⌜ (length (now report) ≡ 1850) × (ahead .length ≤ 48) × (length (now text) ≡ 128) ⌝ }
+fn log_reports(register: &mut [u8], report: &mut [u8], ahead: Input, remarks: bool, text: &mut [u8])
+    requires { ⌜ (length (now report) ≡ 1850) × (ahead .length ≤ 48) × (length (now text) ≡ 1024) ⌝ }
 {
-    if print_header(text) {
+    if print_header(remarks, text) {
         let first = read_report(report, ahead);
-        log_from(register, report, first, text);
+        log_from(register, report, first, remarks, text);
     }
 }
 
 // A proved loop has to end, so it counts the turns that are left, more than any input needs.
-fn log_from(register: &mut [u8], report: &mut [u8], first: Input, text: &mut [u8])
-    requires { ⌜ (length (now report) ≡ 1850) × (first .length ≤ 1850) × (length (now text) ≡ 128) ⌝ }
+fn log_from(register: &mut [u8], report: &mut [u8], first: Input, remarks: bool, text: &mut [u8])
+    requires { ⌜ (length (now report) ≡ 1850) × (first .length ≤ 1850) × (length (now text) ≡ 1024) ⌝ }
 {
     let mut input = first;
     let mut progress = log::at_start();
     let mut turns = u64::MAX;
     while turns > 0 && (input.length > 0) & !input.failed {
         let got = input.length;
-        let logged = log::log_report(register, &report[..got], progress, text);
+        let logged = log_report(register, &report[..got], progress, remarks, text);
         if !print(text, logged.length) {
             return;
         }
@@ -199,22 +227,42 @@ fn log_from(register: &mut [u8], report: &mut [u8], first: Input, text: &mut [u8
     }
 }
 
-fn print_header(text: &mut [u8]) -> bool
-    requires { ⌜ length (now text) ≡ 128 ⌝ }
+fn log_report(
+    register: &mut [u8],
+    report: &[u8],
+    so_far: Progress,
+    remarks: bool,
+    text: &mut [u8],
+) -> Logged
+    ensures { λ r. ⌜ r .length ≤ 1024 ⌝ }
 {
+    if remarks {
+        log::log_remark(register, report, so_far, text)
+    } else {
+        log::log_report(register, report, so_far, text)
+    }
+}
+
+fn print_header(remarks: bool, text: &mut [u8]) -> bool
+    requires { ⌜ length (now text) ≡ 1024 ⌝ }
+{
+    if remarks {
+        let end = log::put_remarks_header(text);
+        return print(text, end);
+    }
     let end = log::put_header(text);
     print(text, end)
 }
 
 fn print_fault(text: &mut [u8], number: u8)
-    requires { ⌜ length (now text) ≡ 128 ⌝ }
+    requires { ⌜ length (now text) ≡ 1024 ⌝ }
 {
     let end = log::put_fault(text, number);
     print(text, end);
 }
 
 fn print_totals(text: &mut [u8], totals: Totals)
-    requires { ⌜ length (now text) ≡ 128 ⌝ }
+    requires { ⌜ length (now text) ≡ 1024 ⌝ }
 {
     let end = log::put_totals(text, totals);
     print(text, end);

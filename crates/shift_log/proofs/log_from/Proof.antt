@@ -8,12 +8,12 @@ use Rattle.shift_log.proofs.log_from.Statement.{statement}
 use Rattle.shift_log.proofs.log_from.Tie as tie
 
 abbrev Inv-loop : tie.InvT-loop
-Inv-loop register₀ report₀ text₀ input₀ progress₀ turns₀ register report text input progress turns =
+Inv-loop register₀ report₀ remarks text₀ input₀ progress₀ turns₀ register report text input progress turns =
     (length register ≡ length register₀) × (length report ≡ length report₀) × (length text ≡ length text₀) × (input .length ≤ 1850)
-    × (length report₀ ≡ 1850) × (length text₀ ≡ 128)
+    × (length report₀ ≡ 1850) × (length text₀ ≡ 1024)
 
 abbrev μ-loop : tie.MeasureT-loop
-μ-loop register₀ report₀ text₀ input₀ progress₀ turns₀ register report text input progress turns =
+μ-loop register₀ report₀ remarks text₀ input₀ progress₀ turns₀ register report text input progress turns =
     turns
 
 pub log-from-spec : {M : Type 1} → statement M
