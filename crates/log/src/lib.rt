@@ -79,7 +79,7 @@ fn put_number(text: &mut [u8], at: usize, n: u64) -> usize
     put_text(text, end, &[b' '])
 }
 
-fn put_unit(text: &mut [u8], at: usize, number: u8, unit: u16) -> usize
+fn put_unit(text: &mut [u8], at: usize, number: u8, unit: u32) -> usize
     requires { ⌜ at ≤ 128 ⌝ }
     ensures { λ r. ⌜ r ≤ at + 21 ⌝ }
     ensures { λ r. ⌜ r ≡ at + length (unitText number unit ++ space) ⌝ }
