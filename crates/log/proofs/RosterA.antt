@@ -35,7 +35,8 @@ same-answers (e ∷ es) (a ∷ rest) p =
     let both = and-left (eqb (e .number) (a .number) && eqb (e .warnings) (a .warnings)) (sameAnswers es rest) p in
     let others = and-right (eqb (e .number) (a .number) && eqb (e .warnings) (a .warnings)) (sameAnswers es rest) p in
     let number = eqb-true (e .number) (a .number) (and-left (eqb (e .number) (a .number)) (eqb (e .warnings) (a .warnings)) both) in
-    let warned = eqb-true (e .warnings) (a .warnings) (and-right (eqb (e .number) (a .number)) (eqb (e .warnings) (a .warnings)) both) in
+    let warned = eqb-true (e .warnings) (a .warnings) (and-right (eqb (e .number) (a .number)) (eqb (e .warnings) (a .warnings))
+    both) in
     rw (number, warned, same-answers es rest others)
 
 answered : answers (newRegister rosterA) loggedReports ≡ expectedAnswers (logged .expected)
@@ -55,15 +56,18 @@ unfolding streamA rosterA bytesOf oneAfterOther reportBytes
 roster = refl
 
 reports : reportsRead (length streamA) (drop 56 streamA) ≡ loggedReports
-unfolding reportsRead statedLength pick and-each every all series uintAt sized marked whole streamA rosterA bytesOf oneAfterOther reportBytes partBytes
+unfolding reportsRead statedLength pick and-each every all series uintAt sized marked whole streamA rosterA bytesOf oneAfterOther
+    reportBytes partBytes
 reports = refl
 
 march : monthOf 9556 ≡ 314
 unfolding monthStart daysIn pick
 march = sym (month-here {day = 9556} {n = 314} {s = 9556} refl refl (omega arith))
 
-lines : logHeader ++ (linesOf 1 loggedReports (expectedAnswers (logged .expected)) ++ totalsLine (totalsOf (expectedAnswers (logged .expected)))) ≡ logA
-unfolding linesOf lineText unitText stampText totalsLine dateOf dateText decimalBefore monthStart daysIn pick expectedAnswers countOf uintAt bytesOf reportBytes partBytes
+lines : logHeader ++ (linesOf 1 loggedReports (expectedAnswers (logged .expected)) ++ totalsLine
+    (totalsOf (expectedAnswers (logged .expected)))) ≡ logA
+unfolding linesOf lineText unitText stampText totalsLine dateOf dateText decimalBefore monthStart daysIn pick expectedAnswers
+    countOf uintAt bytesOf reportBytes partBytes
 lines = rw march
 
 pub roster-a-log : shiftLog streamA ≡ logA

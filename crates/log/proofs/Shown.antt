@@ -25,7 +25,9 @@ module _ (here there : List ℕ) (at end b : ℕ) where
     unfolding shownByte pick
     as-it-is e p = rw (ne-eqb b 92 other, e) p
 
-    pub in-hex : (leb 0x20 b && leb b 0x7E) ≡ false → (mid : List ℕ) (between h l : ℕ) → Put here at (ascii "\\x") mid between → Put mid between (h ∷ l ∷ []) there end → h ≡ hexDigit (b / 16) → l ≡ hexDigit (b % 16) → Put here at (shownByte b) there end
+    pub in-hex : (leb 0x20 b && leb b 0x7E) ≡ false → (mid : List ℕ) (between h l : ℕ) → Put here at (ascii "\\x") mid between
+        → Put mid between (h ∷ l ∷ []) there end → h ≡ hexDigit (b / 16) → l ≡ hexDigit (b % 16)
+        → Put here at (shownByte b) there end
     unfolding shownByte pick
     in-hex e mid between h l p q high low =
         rw (ne-eqb b 92 other, e, ← high, ← low) (put-then here mid there at between end (ascii "\\x") (h ∷ l ∷ []) p q)
@@ -40,7 +42,9 @@ pub shown-none : (here bytes : List ℕ) (at : ℕ) → Put here at (shown (take
 unfolding shown
 shown-none here bytes at = (sym (add-zero at), sym (put-nothing here at))
 
-pub shown-more : (here there last bytes : List ℕ) (at mid end j v : ℕ) → j < length bytes → v ≡ getD bytes j 0 → Put here at (shown (take j bytes)) there mid → Put there mid (shownByte v) last end → Put here at (shown (take (j + 1) bytes)) last end
+pub shown-more : (here there last bytes : List ℕ) (at mid end j v : ℕ) → j < length bytes → v ≡ getD bytes j 0
+    → Put here at (shown (take j bytes)) there mid → Put there mid (shownByte v) last end
+    → Put here at (shown (take (j + 1) bytes)) last end
 unfolding shown
 shown-more here there last bytes at mid end j v l same p q =
     let s : j + 1 ≡ suc j = omega arith in

@@ -76,7 +76,12 @@ countOf test (a ∷ rest) = pick (test a) 1 0 + countOf test rest
 
 -- "Totals: clean, warned, refused."
 abbrev pub totalsOf : List Answer → Totals
-totalsOf answers = record { clean = countOf isClean answers; warned = countOf isWarned answers; refused = countOf isRefused answers }
+totalsOf answers = record {
+  clean = countOf isClean answers;
+  warned = countOf isWarned answers;
+  refused = countOf isRefused
+      answers;
+}
 
 -- "total 2 1 2"
 unfoldable pub totalsLine : Totals → List ℕ

@@ -10,10 +10,11 @@ ghost use lib.ListN.{length};
 ghost use Rattle.fields.specs.Lists.{pick, put};
 ghost use Rattle.calendar.specs.Calendar.{digit as digitOf};
 ghost use Rattle.rules.specs.Desk.{answerTo};
-ghost use Rattle.log.specs.Log.{decimal, space, lineFeed, logHeader, faultLine, unitText, stampText, numberColumn, lineText, logLine, totalsLine};
+ghost use Rattle.log.specs.Log.{decimal, space, lineFeed, logHeader, faultLine, unitText, stampText, numberColumn};
+ghost use Rattle.log.specs.Log.{lineText, logLine, totalsLine};
 ghost use Rattle.log.specs.Remarks.{hexDigit, shownByte, shown, remarkColumn, remarkLine, remarksHeader};
-ghost use Rattle.log.specs.Run.{entryBegins, statedLength, mostCounted, oneMore, countAnswer, progressAfter, loggedAt, loggedAfter, remarkLogged, atStart, nextLine};
-ghost use Rattle.log.specs.Run.{nextRemarkLine, logFrom, logOf, shiftLog};
+ghost use Rattle.log.specs.Run.{entryBegins, statedLength, mostCounted, oneMore, countAnswer, progressAfter, atStart};
+ghost use Rattle.log.specs.Run.{loggedAt, loggedAfter, remarkLogged, nextLine, nextRemarkLine, logFrom, logOf, shiftLog};
 ghost use Rattle.log.specs.RosterA.{streamA, logA};
 
 // The reports accepted clean, accepted with warnings, and refused.

@@ -18,10 +18,12 @@ module _ (c : Cursor) (n : ℕ) where
   stops h = rw (lt-leb (c .place + n) highest h)
 
 module _ (s : List ℕ) (c : Cursor) (gap width : ℕ) {from next : Cursor} {v : ℕ} (begins : from ≡ cursorPast c gap) where
-  pub two-bytes : width ≡ 2 → next ≡ cursorPast from 2 → v ≡ u16At s (from .place) → record { value = v; next = next } ≡ taken s c gap width
+  pub two-bytes : width ≡ 2 → next ≡ cursorPast from 2 → v ≡ u16At s (from .place)
+      → record { value = v; next = next } ≡ taken s c gap width
   unfolding pick
   two-bytes w n e = rw (eq-eqb width 2 w, n, e, begins)
 
-  pub four-bytes : (width ≡ 2 → ⊥) → next ≡ cursorPast from 4 → v ≡ u32At s (from .place) → record { value = v; next = next } ≡ taken s c gap width
+  pub four-bytes : (width ≡ 2 → ⊥) → next ≡ cursorPast from 4 → v ≡ u32At s (from .place)
+      → record { value = v; next = next } ≡ taken s c gap width
   unfolding pick
   four-bytes w n e = rw (ne-eqb width 2 w, n, e, begins)

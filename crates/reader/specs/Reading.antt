@@ -1,4 +1,5 @@
--- "The shift log goes through a report with a reader that holds the report and its place": what is read at a place, and where the reader then stands.
+-- "The shift log goes through a report with a reader that holds the report and its place": what is read at a place, and where the
+-- reader then stands.
 use Prim.Native.Nat.{ℕ, _+_}
 use mathlib.Core.List.{List}
 use lib.Dec.{leb, eqb}

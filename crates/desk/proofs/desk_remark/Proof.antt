@@ -13,7 +13,8 @@ add-result c = omega (arith, at-most-one (c .before .before .remark-place .resul
 
 returns : tie.Need-returns
 returns c =
-    rw (one-or-zero (c .before .before .remark-place .result .standing), c .before .before .remark-place .ensures) (refl, (refl, refl))
+    rw (one-or-zero (c .before .before .remark-place .result .standing), c .before .before .remark-place .ensures)
+    (refl, (refl, refl))
 
 pub desk-remark-spec : {M : Type 1} → statement M
 desk-remark-spec =

@@ -13,8 +13,12 @@ returns c =
     let number = warnings .before .before .before .before .before in
     let unit = number .before .before .before .before .before in
     let line = unit .before .before .before .before in
-    let head = line .before .before .line-head .ensures in
-    (omega arith, line-text-put _ _ _ _ _ _ _ _ _ _ _ _ _ _ _ _ (ap (λ (h : LineHead). h .unit) head) (ap (λ (h : LineHead). h .stamp) head) (line .put-number .ensures .1) (unit .put-unit .ensures .1) (number .put-number2 .ensures .1) (warnings .put-number3 .ensures .1) (stamp .put-stamp .ensures .1))
+    let head = line .before .before .line-head .ensures in (
+      omega arith,
+      line-text-put _ _ _ _ _ _ _ _ _ _ _ _ _ _ _ _ (ap (λ (h : LineHead). h .unit) head)
+          (ap (λ (h : LineHead). h .stamp) head) (line .put-number .ensures .1) (unit .put-unit .ensures .1)
+          (number .put-number2 .ensures .1) (warnings .put-number3 .ensures .1) (stamp .put-stamp .ensures .1),
+    )
 
 pub put-line-text-spec : {M : Type 1} → statement M
 put-line-text-spec =

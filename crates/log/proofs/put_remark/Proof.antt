@@ -16,8 +16,11 @@ put-shown-requires c κs =
 returns : tie.Need-returns
 returns c =
     let remark = c .before .before .before .before in
-    let mark = remark .before .before .before .before .before in
-    (omega arith, put-then _ _ _ _ _ _ _ _ (mark .put-text .ensures) (put-same _ _ _ _ (ap shown (remark .remark .ensures .1 .0)) (c .before .before .put-shown .ensures .1)))
+    let mark = remark .before .before .before .before .before in (
+      omega arith,
+      put-then _ _ _ _ _ _ _ _ (mark .put-text .ensures)
+          (put-same _ _ _ _ (ap shown (remark .remark .ensures .1 .0)) (c .before .before .put-shown .ensures .1)),
+    )
 
 pub put-remark-spec : {M : Type 1} → statement M
 put-remark-spec =

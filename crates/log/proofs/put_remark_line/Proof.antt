@@ -7,8 +7,11 @@ use Rattle.log.proofs.put_remark_line.Tie as tie
 returns : tie.Need-returns
 returns c =
     let remark = c .before .before .before .before .before .before .before in
-    let line = remark .before .before .before .before in
-    (omega arith, line-then _ _ _ _ _ _ _ (line-then _ _ _ _ _ _ _ (line .put-line-text .ensures .1) (remark .put-remark .ensures .1)) (c .before .before .put-text .ensures))
+    let line = remark .before .before .before .before in (
+      omega arith,
+      line-then _ _ _ _ _ _ _ (line-then _ _ _ _ _ _ _ (line .put-line-text .ensures .1)
+          (remark .put-remark .ensures .1)) (c .before .before .put-text .ensures),
+    )
 
 pub put-remark-line-spec : {M : Type 1} → statement M
 put-remark-line-spec =

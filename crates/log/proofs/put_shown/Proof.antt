@@ -41,8 +41,13 @@ loop-again : tie.Need-loop-again Inv-loop μ-loop
 loop-again c =
     let byte = c .before .before in
     let here = byte .before .before .before .before in
-    let bytes = here .before .before .before .args .bytes .now in
-    (omega arith, omega arith, shown-more _ _ _ bytes _ _ _ (here .loop .j) _ (omega arith) refl (here .loop .inv .2) (byte .put-shown-byte .ensures .1), omega arith)
+    let bytes = here .before .before .before .args .bytes .now in (
+      omega arith,
+      omega arith,
+      shown-more _ _ _ bytes _ _ _ (here .loop .j) _ (omega arith) refl (here .loop .inv .2)
+          (byte .put-shown-byte .ensures .1),
+      omega arith,
+    )
 
 same-length : tie.Need-same-length Inv-loop μ-loop
 same-length c =

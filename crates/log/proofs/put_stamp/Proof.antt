@@ -22,13 +22,19 @@ returns : tie.Need-returns
 returns c =
     let if = c .before .before .before .before .before in
     let d = if .before .before in
-    let n = printed-length (replicate 16 0) (d .before .before .before .args .stamp) (d .print-date .ensures .1) refl in
-    (omega (arith, n), stamp-there _ _ _ _ (rw (if .before .is-time .ensures)) _ _ _ (if .if1 .taken) (d .print-date .ensures .1) (c .before .before .put-text .ensures))
+    let n = printed-length (replicate 16 0) (d .before .before .before .args .stamp) (d .print-date .ensures .1) refl in (
+      omega (arith, n),
+      stamp-there _ _ _ _ (rw (if .before .is-time .ensures)) _ _ _ (if .if1 .taken) (d .print-date .ensures .1)
+          (c .before .before .put-text .ensures),
+    )
 
 returns-2 : tie.Need-returns-2
 returns-2 c =
-    let if = c .before .before .before .before .before in
-    (omega arith, stamp-missing _ _ _ _ (rw (if .before .is-time .ensures)) _ _ (if .if1 .left) (c .before .before .put-text2 .ensures))
+    let if = c .before .before .before .before .before in (
+      omega arith,
+      stamp-missing _ _ _ _ (rw (if .before .is-time .ensures)) _ _ (if .if1 .left)
+          (c .before .before .put-text2 .ensures),
+    )
 
 pub put-stamp-spec : {M : Type 1} → statement M
 put-stamp-spec =

@@ -1,4 +1,5 @@
--- `reader::start` meets its contract: a walk of its MIR, by hand. A cursor is made of 0, and a `Reader` of the report and the cursor, in the result's local.
+-- `reader::start` meets its contract: a walk of its MIR, by hand. A cursor is made of 0, and a `Reader` of the report and the
+-- cursor, in the result's local.
 -- A `&[u8]` is Copy, so what it owns is had twice: once for the report at exit, and once inside the result. Assumes nothing.
 use mathlib.Core.Path.{refl}
 use Prim.Native.Nat.{ℕ}
@@ -18,7 +19,8 @@ use contract.Monad.{Fun}
 use contract.Running.{givenOf, tables, tablesOf}
 use types.Kit.{Given, ‵, raw, _⊛_, _$_, _∵_, !, qed, by, move, use1, split, fsplit, fjoin, suffices, frame}
 use types.Part.{agg}
-use types.Run.{look, init, forget, stop, from, load, lit, and-then, no-more, assigns, returns, enter, alloc1, alloc0, params1, pass1, pass0, free1, free0}
+use types.Run.{look, init, forget, stop, from, load, lit, and-then, no-more, assigns, returns, enter, alloc1, alloc0, params1}
+use types.Run.{pass1, pass0, free1, free0}
 use sound.WpLaws.{WpFn-mono}
 use denote.RattleType.{owns}
 use denote.Laws.{Is}
@@ -50,7 +52,8 @@ stayed = (stay-none-slice (0 ∷ []) tt (plain (λ _. u8)) yes, tt)
 first-is : Is P.the-row atFirst (P′.lowered atFirst ∷ [])
 first-is = LL.owes P.the-type P′.the-laws atFirst ((refl, lit< tt), tt)
 
-module _ {M : Type 1} (𝓤 : URA M) (H : Heap 𝓤) (A : Atoms 𝓤) (W : Given 𝓤 H A) (mem : Memory → SProp 𝓤) (run : Routine → Fun 𝓤) (κ : Lft) (q : Share) (s : RefT (List ℕ)) where
+module _ {M : Type 1} (𝓤 : URA M) (H : Heap 𝓤) (A : Atoms 𝓤) (W : Given 𝓤 H A) (mem : Memory → SProp 𝓤) (run : Routine → Fun 𝓤)
+    (κ : Lft) (q : Share) (s : RefT (List ℕ)) where
   abbrev α : NamedLft
   α = namedLft 1 0 tt (κ, tt)
 
@@ -70,33 +73,46 @@ module _ {M : Type 1} (𝓤 : URA M) (H : Heap 𝓤) (A : Atoms 𝓤) (W : Given
   exits : ent 𝓤 (onEntry 𝓤 H A start.signature (κ, tt) (q, tt) (s, tt) at) (Post (T′.lowered (readerAt s atFirst)))
   exits =
       qed W ((‵ (flft κ q) ⊛ ‵ ftrue) ∷ ‵ (owns (ShrSlice (named 0) κ u8 ∷ []) (s, tt) at) ∷ []) ∵
-      suffices ! _ (ends-at 𝓤 H A start.ended stayed (start.clauses 𝓤 H A mem run) W (((κ, tt), (q, tt), tt, (s, tt), at), tt) (T′.lowered (readerAt s atFirst)) (readerAt s atFirst) (tt, tt) (tt, tt)) $ says ! refl $
-      frame ! $ fsplit ! $ use1 W (‵ Own ⊛ ‵ Own) (shr-slice-copy 𝓤 H A W (named 0) κ u8 .twice s (v ∷ [])) $ split ! $ move ! (0 ∷ 2 ∷ []) $ fjoin ! $ frame ! $
+      suffices ! _ (ends-at 𝓤 H A start.ended stayed (start.clauses 𝓤 H A mem run) W (((κ, tt), (q, tt), tt, (s, tt), at), tt)
+      (T′.lowered (readerAt s atFirst)) (readerAt s atFirst) (tt, tt) (tt, tt)) $ says ! refl $
+      frame ! $ fsplit ! $ use1 W (‵ Own ⊛ ‵ Own) (shr-slice-copy 𝓤 H A W (named 0) κ u8 .twice s (v ∷ [])) $ split ! $
+      move ! (0 ∷ 2 ∷ []) $ fjoin ! $ frame ! $
       -- [what the report owns]: beside the facts of the cursor it is what the struct owns
-      nothing ! $ owned ! P.the-row (Is P.the-row) (LL.makes P.the-type P′.the-plain 𝓤 H A) atFirst _ first-is $ fjoin ! $ move ! (1 ∷ 0 ∷ []) $ fjoin ! $ by ! (own-shut 𝓤 H A W (T.the-type α) (T′.the-laws α) (s, (atFirst, tt)))
+      nothing ! $ owned ! P.the-row (Is P.the-row) (LL.makes P.the-type P′.the-plain 𝓤 H A) atFirst _ first-is $ fjoin ! $
+      move ! (1 ∷ 0 ∷ []) $ fjoin ! $ by ! (own-shut 𝓤 H A W (T.the-type α) (T′.the-laws α) (s, (atFirst, tt)))
 
   abbrev first-typed : Holds (hasTy P′.mir (P′.lowered atFirst)) × WT (P′.lowered atFirst)
   first-typed = LL.lawful P.the-type P′.the-laws 𝓤 H A W .typed atFirst _ first-is .0
 
   module _ (C : Calls 𝓤 H) (Λ : Loops 𝓤 H) where
-    walk : Is (ShrSlice (named 0) κ u8) s (v ∷ []) → ent 𝓤 (onEntry 𝓤 H A start.signature (κ, tt) (q, tt) (s, tt) at) (WpFn 𝓤 H C Λ code.function (v ∷ []) Post)
+    walk : Is (ShrSlice (named 0) κ u8) s (v ∷ [])
+        → ent 𝓤 (onEntry 𝓤 H A start.signature (κ, tt) (q, tt) (s, tt) at) (WpFn 𝓤 H C Λ code.function (v ∷ []) Post)
     walk p =
         qed W (raw (onEntry 𝓤 H A start.signature (κ, tt) (q, tt) (s, tt) at) ∷ []) ∵ enter ! C Λ code.function (v ∷ []) _ $
-        alloc1 ! (λ l₀. alloc1 ! (λ l₁. alloc1 ! (λ l₂. alloc0 ! $ params1 ! $ pass1 ! (init ! 2 refl (shr-slice-lawful 𝓤 H A W (named 0) κ u8 .typed s (v ∷ []) p .0)) $ pass0 ! $
+        alloc1 ! (λ l₀. alloc1 ! (λ l₁. alloc1 ! (λ l₂. alloc0 ! $ params1 ! $
+        pass1 ! (init ! 2 refl (shr-slice-lawful 𝓤 H A W (named 0) κ u8 .typed s (v ∷ []) p .0)) $ pass0 ! $
         assigns ! (agg ! (and-then ! (lit ! tt) (no-more !))) (from ! (stop !)) (init ! 0 refl first-typed) $
-        assigns ! (agg ! (and-then ! (load ! (from ! (stop !)) (look ! 2 refl)) (and-then ! (load ! (from ! (stop !)) (look ! 0 refl)) (no-more !)))) (from ! (stop !)) (init ! 4 refl (tt, (shr-slice-lawful 𝓤 H A W (named 0) κ u8 .typed s (v ∷ []) p .0 .1, (first-typed .1, tt)))) $
-        returns ! (look ! 4 refl) $ forget ! 0 refl $ forget ! 2 refl $ forget ! 4 refl $ move ! (4 ∷ 5 ∷ []) $ free1 ! $ move ! (2 ∷ 3 ∷ []) $ free1 ! $ free1 ! $ free0 ! $ by ! exits)))
+        assigns ! (agg ! (and-then ! (load ! (from ! (stop !)) (look ! 2 refl))
+        (and-then ! (load ! (from ! (stop !)) (look ! 0 refl)) (no-more !)))) (from ! (stop !))
+        (init ! 4 refl (tt, (shr-slice-lawful 𝓤 H A W (named 0) κ u8 .typed s (v ∷ []) p .0 .1, (first-typed .1, tt)))) $
+        returns ! (look ! 4 refl) $ forget ! 0 refl $ forget ! 2 refl $ forget ! 4 refl $ move ! (4 ∷ 5 ∷ []) $ free1 ! $
+        move ! (2 ∷ 3 ∷ []) $ free1 ! $ free1 ! $ free0 ! $ by ! exits)))
 
-module _ {M : Type 1} (𝓤 : URA M) (H : Heap 𝓤) (A : Atoms 𝓤) (W : Given 𝓤 H A) (mem : Memory → SProp 𝓤) (run : Routine → Fun 𝓤) where
-  start-walks : (C : Calls 𝓤 H) (Λ : Loops 𝓤 H) → Walks 𝓤 H A start.ended stayed (WpFn 𝓤 H C Λ code.function) (start.clauses 𝓤 H A mem run)
+module _ {M : Type 1} (𝓤 : URA M) (H : Heap 𝓤) (A : Atoms 𝓤) (W : Given 𝓤 H A) (mem : Memory → SProp 𝓤)
+    (run : Routine → Fun 𝓤) where
+  start-walks : (C : Calls 𝓤 H) (Λ : Loops 𝓤 H)
+      → Walks 𝓤 H A start.ended stayed (WpFn 𝓤 H C Λ code.function) (start.clauses 𝓤 H A mem run)
   start-walks C Λ =
-      walked 𝓤 H A start.ended stayed (start.clauses 𝓤 H A mem run) (WpFn 𝓤 H C Λ code.function) (λ κs. (slice-vals, tt)) (λ κs. (shr-slice-tells (named 0) (κs .0) u8, tt))
+      walked 𝓤 H A start.ended stayed (start.clauses 𝓤 H A mem run) (WpFn 𝓤 H C Λ code.function) (λ κs. (slice-vals, tt))
+      (λ κs. (shr-slice-tells (named 0) (κs .0) u8, tt))
       (λ κs qs bounds a g are. via 𝓤 _ (fst∗ 𝓤 _ (emp 𝓤)) (walk 𝓤 H A W mem run (κs .0) (qs .0) (a .0) C Λ (are .0)))
 
-start-meets : {M : Type 1} (𝓤 : URA M) (H : Heap 𝓤) (A : Atoms 𝓤) → Given 𝓤 H A → (mem : Memory → SProp 𝓤) (run : Routine → Fun 𝓤) (𝓣 : Tables 𝓤 H)
+start-meets : {M : Type 1} (𝓤 : URA M) (H : Heap 𝓤) (A : Atoms 𝓤) → Given 𝓤 H A
+    → (mem : Memory → SProp 𝓤) (run : Routine → Fun 𝓤) (𝓣 : Tables 𝓤 H)
     → Meets 𝓤 H A start.signature (WpFn 𝓤 H (𝓣 .C) (𝓣 .Λ) code.function) (start.spec 𝓤 H A mem run)
 start-meets 𝓤 H A W mem run 𝓣 =
-    walk-meets 𝓤 H A start.ended stayed W (goes-none-slice 𝓤 H A W 1 (0 ∷ []) tt (plain (λ _. u8)) yes, tt) (start.clauses 𝓤 H A mem run) (WpFn 𝓤 H (𝓣 .C) (𝓣 .Λ) code.function)
+    walk-meets 𝓤 H A start.ended stayed W (goes-none-slice 𝓤 H A W 1 (0 ∷ []) tt (plain (λ _. u8)) yes, tt)
+    (start.clauses 𝓤 H A mem run) (WpFn 𝓤 H (𝓣 .C) (𝓣 .Λ) code.function)
     (WpFn-mono 𝓤 H (W .laws) 𝓣 code.function) (start-walks 𝓤 H A W mem run (𝓣 .C) (𝓣 .Λ))
 
 pub start-spec : {M : Type 1} → stated.statement M

@@ -8,12 +8,14 @@ returns c = not-whole _ _ (c .before .is-whole .ensures) (c .if1 .taken)
 
 returns-2 : tie.Need-returns-2
 returns-2 c =
-    no-text _ _ (c .before .before .before .is-whole .ensures) (c .before .before .if1 .left) _ (c .before .u16-at .ensures) (c .if2 .taken)
+    no-text _ _ (c .before .before .before .is-whole .ensures) (c .before .before .if1 .left) _ (c .before .u16-at .ensures)
+    (c .if2 .taken)
 
 returns-3 : tie.Need-returns-3
 returns-3 c =
     let if = c .before .before .before in
-    some-text _ _ (if .before .is-whole .ensures) (if .if1 .left) _ (c .before .before .u16-at .ensures) (c .before .if2 .left) _ (c .u16-at2 .ensures)
+    some-text _ _ (if .before .is-whole .ensures) (if .if1 .left) _ (c .before .before .u16-at .ensures) (c .before .if2 .left) _
+    (c .u16-at2 .ensures)
 
 pub remark-place-spec : {M : Type 1} → statement M
 remark-place-spec =
