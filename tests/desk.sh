@@ -38,6 +38,7 @@ bad_words() {
   refused 2 "desk: no such word: judge; $lists" ./desk judge
   refused 2 "desk: no such word: ; $lists" ./desk ''
   refused 2 'desk: log takes one FILE, or - for standard input' ./desk log
+  refused 2 'desk: remarks takes one FILE, or - for standard input' ./desk remarks
   refused 2 'desk: show takes one FILE, or - for standard input' ./desk show one two
   refused 2 'desk: compare takes nothing more' ./desk compare 7
   refused 1 'desk: no such file: no/such file' ./desk log 'no/such file'
@@ -48,7 +49,7 @@ help_lists_every_word() {
   local word
   ./desk help > "$room/help"
   told 'no argument is not help' cmp -s "$room/help" <(./desk)
-  for word in log show compare bench test help; do
+  for word in log remarks show compare bench test help; do
     told "help lacks $word" grep -q "^./desk $word " "$room/help"
   done
 }
@@ -64,6 +65,12 @@ samples() {
   cp samples/roster-a.stream "$room/a stream"
   (cd "$room" && "$top/desk" log 'a stream') > "$room/out"
   told 'a name with a space, from another folder' cmp "$room/out" samples/roster-a.log
+  told 'the stream of remarks is another' cmp samples/remarks.stream <(python3 tests/remarks_sample.py)
+  logged samples/remarks.log ./desk remarks samples/remarks.stream
+  logged <(sed 's/ | .*//' samples/remarks.log) ./desk log samples/remarks.stream
+  logged "$room/roster 20" ./desk remarks - < /dev/null
+  refused 0 'shift_log: the one argument that it takes is remarks' target/bin/shift_log remark
+  refused 0 'shift_log: the one argument that it takes is remarks' target/bin/shift_log remarks remarks
   told 'the evening is not shown' grep -q '^report 25: ' <(./desk show samples/evening.stream)
 }
 

@@ -12,7 +12,7 @@ ghost use mathlib.Core.Path.{_≡_};
 ghost use Prim.Native.Nat.{_≤_};
 ghost use lib.ListN.{length};
 
-pub fn without_star(register: &mut [u8], report: &mut [u8])
+pub(crate) fn without_star(register: &mut [u8], report: &mut [u8])
     requires { ⌜ length (now report) ≡ 1850 ⌝ }
 {
     say(b"Reports of paper 01 on fresh roster A, unit 1\n");
@@ -143,7 +143,7 @@ fn one_of_eight(register: &mut [u8], report: &mut [u8], i: u8)
     );
 }
 
-pub fn bench_findings(register: &mut [u8], report: &mut [u8])
+pub(crate) fn bench_findings(register: &mut [u8], report: &mut [u8])
     requires { ⌜ length (now report) ≡ 1850 ⌝ }
 {
     say(b"\nWhat the bench found\n");

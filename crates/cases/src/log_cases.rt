@@ -11,7 +11,7 @@ ghost use mathlib.Core.Path.{_≡_};
 ghost use Prim.Native.Nat.{_≤_};
 ghost use lib.ListN.{length};
 
-pub fn all(register: &mut [u8], report: &mut [u8], text: &mut [u8])
+pub(crate) fn all(register: &mut [u8], report: &mut [u8], text: &mut [u8])
     requires { ⌜ (length (now report) ≡ 1850) × (length (now text) ≡ 128) ⌝ }
 {
     rosters(register, text);

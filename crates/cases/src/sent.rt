@@ -13,26 +13,26 @@ use records::Z1;
 ghost use Prim.Native.Nat.{_≤_};
 
 // "D is 13,760,640, which is 2026-03-01 00:00."
-pub const D: u32 = 13760640;
+pub(crate) const D: u32 = 13760640;
 
 // A creation with direction 1 and ordinal 1. Levelled types have one part, or two where the power changes at a step.
-pub struct Sent {
-    pub unit: u16,
-    pub owner: u16,
-    pub record_type: u8,
-    pub start_mark: u8,
-    pub qualification: u8,
-    pub place: u8,
-    pub stamp: u32,
-    pub start: u32,
-    pub end: u32,
-    pub power: u32,
-    pub step_at: u32,
-    pub step_power: u32,
+pub(crate) struct Sent {
+    pub(crate) unit: u16,
+    pub(crate) owner: u16,
+    pub(crate) record_type: u8,
+    pub(crate) start_mark: u8,
+    pub(crate) qualification: u8,
+    pub(crate) place: u8,
+    pub(crate) stamp: u32,
+    pub(crate) start: u32,
+    pub(crate) end: u32,
+    pub(crate) power: u32,
+    pub(crate) step_at: u32,
+    pub(crate) step_power: u32,
 }
 
 // "Unless said: create, positive derating, owner 7, direction 1, planned, ordinal 1, t = 0, .. 20,000 in one part D+60 to D+120"
-pub fn derating(place: u8) -> Sent {
+pub(crate) fn derating(place: u8) -> Sent {
     Sent {
         unit: 1,
         owner: 7,
@@ -49,7 +49,7 @@ pub fn derating(place: u8) -> Sent {
     }
 }
 
-pub fn derating_over(place: u8, stamp: u32, start: u32, end: u32) -> Sent {
+pub(crate) fn derating_over(place: u8, stamp: u32, start: u32, end: u32) -> Sent {
     let mut s = derating(place);
     s.stamp = stamp;
     s.start = start;
@@ -57,7 +57,7 @@ pub fn derating_over(place: u8, stamp: u32, start: u32, end: u32) -> Sent {
     s
 }
 
-pub fn forced(place: u8, power: u32) -> Sent {
+pub(crate) fn forced(place: u8, power: u32) -> Sent {
     let mut s = derating(place);
     s.record_type = FORCED_WORK;
     s.power = power;
@@ -65,7 +65,7 @@ pub fn forced(place: u8, power: u32) -> Sent {
 }
 
 // "stops and "one from" end D+180"
-pub fn begun_stop(place: u8, qualification: u8, start: u32) -> Sent {
+pub(crate) fn begun_stop(place: u8, qualification: u8, start: u32) -> Sent {
     let mut s = derating_over(place, D + 10, start, D + 180);
     s.record_type = STOP;
     s.start_mark = EXECUTED;
@@ -74,7 +74,7 @@ pub fn begun_stop(place: u8, qualification: u8, start: u32) -> Sent {
 }
 
 // "events start at D+10, end = start, mark 2, identifier zero"
-pub fn event(code: u8) -> Sent {
+pub(crate) fn event(code: u8) -> Sent {
     let mut s = begun_stop(0, code, D + 10);
     s.record_type = EVENT;
     s.end = D + 10;
@@ -138,7 +138,7 @@ fn put_codes(report: &mut [u8], s: Sent) {
 }
 
 // Puts the report's bytes; how many they are.
-pub fn compose(report: &mut [u8], s: Sent) -> usize
+pub(crate) fn compose(report: &mut [u8], s: Sent) -> usize
     ensures { λ r. ⌜ r ≤ 82 ⌝ }
 {
     let text_at = 48 + 16 * (part_count(s) as usize);
@@ -167,7 +167,7 @@ fn put_entry(roster: &mut [u8], at: usize, owner: u16, kind: u8, state: u8, max:
 }
 
 // "unit 1, owner 7, W1, state 5, since D, 200,000 and 80,000; unit 2, owner 9, Z1, since D, 50,000 and 0"
-pub fn put_roster_a(roster: &mut [u8]) {
+pub(crate) fn put_roster_a(roster: &mut [u8]) {
     put_entry(roster, 0, 7, W1, P, 200000, 80000);
     put_entry(roster, 28, 9, Z1, 0, 50000, 0);
 }

@@ -5,7 +5,7 @@ use rules::Answer;
 ghost use mathlib.Core.Path.{_≡_};
 ghost use lib.ListN.{length};
 
-pub fn say(words: &[u8]) {
+pub(crate) fn say(words: &[u8]) {
     io::write_all(STDOUT_FILENO, words);
 }
 
@@ -27,13 +27,13 @@ fn say_answer(a: Answer) {
 }
 
 // Sets the register up from roster A, as it is before each case.
-pub fn fresh(register: &mut [u8]) {
+pub(crate) fn fresh(register: &mut [u8]) {
     let mut roster = [0u8; 56];
     crate::sent::put_roster_a(&mut roster);
     setup::set_up(&roster, register);
 }
 
-pub fn answer(register: &mut [u8], report: &mut [u8], s: Sent) -> Answer
+pub(crate) fn answer(register: &mut [u8], report: &mut [u8], s: Sent) -> Answer
     requires { ⌜ length (now report) ≡ 1850 ⌝ }
 {
     let end = crate::sent::compose(report, s);
@@ -41,7 +41,7 @@ pub fn answer(register: &mut [u8], report: &mut [u8], s: Sent) -> Answer
 }
 
 // A report after those before it.
-pub fn then(register: &mut [u8], report: &mut [u8], s: Sent, words: &[u8])
+pub(crate) fn then(register: &mut [u8], report: &mut [u8], s: Sent, words: &[u8])
     requires { ⌜ length (now report) ≡ 1850 ⌝ }
 {
     say(words);
@@ -49,7 +49,7 @@ pub fn then(register: &mut [u8], report: &mut [u8], s: Sent, words: &[u8])
 }
 
 // A report on fresh roster A.
-pub fn first(register: &mut [u8], report: &mut [u8], s: Sent, words: &[u8])
+pub(crate) fn first(register: &mut [u8], report: &mut [u8], s: Sent, words: &[u8])
     requires { ⌜ length (now report) ≡ 1850 ⌝ }
 {
     fresh(register);

@@ -99,7 +99,8 @@ module _ (reg s : List ℕ) {x : Bool} (one : x ≡ registerWhole reg) where
           (e ∙ rw (first, second, fails), rw (first, second, fails))
 
       -- the unit's block is lent, judged and handed back
-      pub judged-there : {a : Answer} {left : List ℕ} → not z ≡ false → a ≡ judge (blockAt reg (headOf s .unit)) s .answer → left ≡ withBlock reg (headOf s .unit) (judge (blockAt reg (headOf s .unit)) s .after) → Is (answerTo reg s) a left
+      pub judged-there : {a : Answer} {left : List ℕ} → not z ≡ false → a ≡ judge (blockAt reg (headOf s .unit)) s .answer
+          → left ≡ withBlock reg (headOf s .unit) (judge (blockAt reg (headOf s .unit)) s .after) → Is (answerTo reg s) a left
       unfolding answerTo pick
       judged-there q e f =
           let passes : question3 reg s ≡ true = sym three ∙ not-false z q in
@@ -113,7 +114,8 @@ module _ (reg s : List ℕ) {h : Head} (e : h ≡ headOf s) where
   owner-same : h .owner ≡ headOf s .owner
   owner-same = ap (λ (h : Head). h .owner) e
 
-  pub owner-asked : {z : List ℕ} {u : UnitHead} → (leb 1 (h .unit) && leb (h .unit) (length reg / 7168)) ≡ true → z ≡ part reg (7168 * (h .unit - 1)) 7168 → u ≡ unitHead z → eqb (u .owner) (h .owner) ≡ question3 reg s
+  pub owner-asked : {z : List ℕ} {u : UnitHead} → (leb 1 (h .unit) && leb (h .unit) (length reg / 7168)) ≡ true
+      → z ≡ part reg (7168 * (h .unit - 1)) 7168 → u ≡ unitHead z → eqb (u .owner) (h .owner) ≡ question3 reg s
   unfolding question3 every and-each
   owner-asked {z} {u} t p q =
       let inside : (leb 1 (headOf s .unit) && leb (headOf s .unit) (length reg / 7168)) ≡ true = rw unit-same at t in
@@ -138,7 +140,8 @@ inside reg s {u} {z} e p q =
     let high = r .1 in
     record { first = omega arith; last = omega arith }
 
-pub lent-length : (reg : List ℕ) (unit : ℕ) → Inside reg unit → length (take (7168 * (unit - 1) + 7168 - 7168 * (unit - 1)) (drop (7168 * (unit - 1)) reg)) ≡ 7168
+pub lent-length : (reg : List ℕ) (unit : ℕ) → Inside reg unit
+    → length (take (7168 * (unit - 1) + 7168 - 7168 * (unit - 1)) (drop (7168 * (unit - 1)) reg)) ≡ 7168
 lent-length reg unit k =
     let a = k .first in
     let b = k .last in
@@ -156,7 +159,9 @@ module _ (reg s : List ℕ) {unit : ℕ} (e : unit ≡ headOf s .unit) where
       ∙ ap (λ (b : List ℕ). judge b s .answer) (part-lent reg (7168 * (unit - 1)) 7168)
       ∙ ap (λ (u : ℕ). judge (blockAt reg u) s .answer) e
 
-  pub left-there : {vs : List ℕ} → Inside reg unit → length vs ≡ length (lent reg unit) → vs ≡ judge (lent reg unit) s .after → take (7168 * (unit - 1)) reg ++ (vs ++ drop (7168 * (unit - 1) + 7168 - 7168 * (unit - 1)) (drop (7168 * (unit - 1)) reg)) ≡ withBlock reg (headOf s .unit) (judge (blockAt reg (headOf s .unit)) s .after)
+  pub left-there : {vs : List ℕ} → Inside reg unit → length vs ≡ length (lent reg unit) → vs ≡ judge (lent reg unit) s .after
+      → take (7168 * (unit - 1)) reg ++ (vs ++ drop (7168 * (unit - 1) + 7168 - 7168 * (unit - 1)) (drop (7168 * (unit - 1)) reg))
+      ≡ withBlock reg (headOf s .unit) (judge (blockAt reg (headOf s .unit)) s .after)
   left-there {vs} k l p =
       let f = k .first in
       let t = k .last in

@@ -5,9 +5,10 @@ ghost use mathlib.Core.Path.{_≡_};
 ghost use Prim.Native.Nat.{_≤_};
 ghost use lib.ListN.{length};
 ghost use Rattle.report.specs.Report.{partCount};
+ghost use Rattle.report.specs.Remark.{remarkIn};
 ghost use Rattle.rules.specs.Judge.{refusal as refusalOf, judge as judged};
 ghost use Rattle.rules.specs.Desk.{setUp, question3, answerTo};
-ghost use Rattle.desk.specs.Packed.{packed};
+ghost use Rattle.desk.specs.Packed.{packed, packedRemark};
 
 fn refusal(number: u8) -> Answer
     ensures { λ r. ⌜ r ≡ refusalOf number ⌝ }
@@ -93,4 +94,22 @@ pub extern "C" fn desk_answer(register: &mut [u8], report: &[u8]) -> u32
 {
     let a = answer_report(register, report);
     a.number as u32 + 256 * (a.warnings as u32)
+}
+
+// The C interface: the remark's number, and 256 where it is the standing text; where it begins, and its length.
+#[no_mangle]
+pub extern "C" fn desk_remark(
+    report: &[u8],
+    standing: &[u8],
+    place: &mut u64,
+    length: &mut u64,
+) -> u32
+    ensures { λ r. ⌜ r ≡ packedRemark (remarkIn (now (report .entry)) (now (standing .entry))) ⌝ }
+    ensures { λ _. ⌜ now (place .exit) ≡ remarkIn (now (report .entry)) (now (standing .entry)) .start ⌝ }
+    ensures { λ _. ⌜ now (length .exit) ≡ remarkIn (now (report .entry)) (now (standing .entry)) .length ⌝ }
+{
+    let p = report::remark_place(report, standing.len());
+    *place = p.start as u64;
+    *length = p.length as u64;
+    p.number as u32 + 256 * (p.standing as u32)
 }

@@ -18,7 +18,8 @@ use Rattle.log.specs.declared.Progress.{Progress}
 use Rattle.log.specs.declared.Logged.{Logged}
 use Rattle.log.specs.Log.{isClean, isWarned, isRefused, countOf, totalsOf, logLine, totalsLine}
 use Rattle.log.proofs.Texts.{Line}
-use Rattle.log.specs.Run.{mostCounted, oneMore, countAnswer, progressAfter, atStart, nextLine, loggedAfter, logFrom, linesOf, logOf, statedLength}
+use Rattle.log.specs.Run.{mostCounted, oneMore, countAnswer, progressAfter, atStart, nextLine, loggedAt, loggedWith}
+use Rattle.log.specs.Run.{logFrom, linesOf, logOf, statedLength}
 
 pub one-more : (n : ℕ) → n < mostCounted → oneMore n ≡ n + 1
 unfolding pick
@@ -60,9 +61,18 @@ module _ (t : Totals) (a : Answer) (lines : ℕ) (within : Within t lines) (room
   counted-first : (later : List Answer) → plus (countAnswer t a) (totalsOf later) ≡ plus t (totalsOf (a ∷ later))
   unfolding plus countAnswer countOf
   counted-first later =
-      rw (moved (t .clean) (countOf isClean later) (isClean a) (omega (arith, within .clean, room)), moved (t .warned) (countOf isWarned later) (isWarned a) (omega (arith, within .warned, room)), moved (t .refused) (countOf isRefused later) (isRefused a) (omega (arith, within .refused, room)))
+      rw (
+        moved (t .clean) (countOf isClean later) (isClean a) (omega (arith, within .clean, room)),
+        moved (t .warned)
+            (countOf isWarned later) (isWarned a) (omega (arith, within .warned, room)),
+        moved (t .refused)
+            (countOf isRefused later) (isRefused a) (omega (arith, within .refused, room)),
+      )
 
-log-from : (ss : List (List ℕ)) (so-far : Progress) (register : List ℕ) → so-far .lines + length ss ≤ mostCounted → Within (so-far .totals) (so-far .lines) → logFrom so-far register ss ≡ linesOf (so-far .lines + 1) ss (answers register ss) ++ totalsLine (plus (so-far .totals) (totalsOf (answers register ss)))
+log-from : (ss : List (List ℕ)) (so-far : Progress) (register : List ℕ) → so-far .lines + length ss ≤ mostCounted
+    → Within (so-far .totals) (so-far .lines)
+    → logFrom so-far register ss ≡ linesOf (so-far .lines + 1) ss (answers register ss) ++ totalsLine
+    (plus (so-far .totals) (totalsOf (answers register ss)))
 unfolding logFrom linesOf answers countOf plus
 log-from [] so-far register room within =
     let same : plus (so-far .totals) (totalsOf []) ≡ so-far .totals =
@@ -73,21 +83,28 @@ log-from (s ∷ ss) so-far register room within =
     let after = answerTo register s .after in
     let less : so-far .lines < mostCounted = omega (arith, room) in
     let more : oneMore (so-far .lines) ≡ so-far .lines + 1 = one-more (so-far .lines) less in
-    let within-more : Within (countAnswer (so-far .totals) a) (oneMore (so-far .lines)) = rw more (stays-within (so-far .totals) a (so-far .lines) within less) in
+    let within-more : Within (countAnswer (so-far .totals) a) (oneMore (so-far .lines)) =
+    rw more (stays-within (so-far .totals) a (so-far .lines) within less) in
     let rest = log-from ss (progressAfter so-far a) after (rw more (omega (arith, room))) within-more in
     rw (rest, more, counted-first (so-far .totals) a (so-far .lines) within less (answers after ss))
     (sym (append-assoc (logLine (so-far .lines + 1) s a) (linesOf (so-far .lines + 1 + 1) ss (answers after ss)) _))
 
-pub log-of-list : (register : List ℕ) (ss : List (List ℕ)) → length ss ≤ mostCounted → logFrom atStart register ss ≡ logOf register ss
+pub log-of-list : (register : List ℕ) (ss : List (List ℕ)) → length ss ≤ mostCounted
+    → logFrom atStart register ss ≡ logOf register ss
 unfolding plus
 log-of-list register ss room =
     let as-answered = answers register ss in
     rw (zero-add (countOf isClean as-answered), zero-add (countOf isWarned as-answered), zero-add (countOf isRefused as-answered))
-    at (log-from ss atStart register (omega (arith, room)) (record { clean = omega arith; warned = omega arith; refused = omega arith }))
+    at (log-from ss atStart register (omega (arith, room))
+    (record { clean = omega arith; warned = omega arith; refused = omega arith }))
 
--- a step of the log
-pub logged : (so-far : Progress) (s : List ℕ) (a given : Answer) (lines n : ℕ) (t : Totals) (here there : List ℕ) → a ≡ given → lines ≡ oneMore (so-far .lines) → Line here (logLine lines s a) there n → t ≡ countAnswer (so-far .totals) a → (record { progress = record { lines = lines; totals = t }; length = n; ends = eqb (a .number) 2 } ≡ loggedAfter so-far s given) × (there ≡ put here 0 (nextLine so-far s given))
-logged so-far s a given lines n t here there same next p count = rw (← same) (rw (p .0, count, next), p .1 ∙ rw next)
+-- a step of the log, whichever line is written
+pub logged : (line : ℕ → List ℕ → Answer
+    → List ℕ) (so-far : Progress) (s : List ℕ) {a given : Answer} {p : Progress} {n : ℕ} (here there : List ℕ) → a ≡ given
+    → p ≡ progressAfter so-far a → Line here (line (p .lines) s a) there n → {l : Logged} → l ≡ loggedAt p a n
+    → (l ≡ loggedWith (line (oneMore (so-far .lines)) s given) so-far given) ×
+    (there ≡ put here 0 (line (oneMore (so-far .lines)) s given))
+logged line so-far s here there same next p all = rw (← same) (all ∙ rw (p .0, next), p .1 ∙ rw next)
 
 -- a report's length by its own k and t
 module _ (s : List ℕ) (k t : ℕ) where
@@ -97,8 +114,10 @@ module _ (s : List ℕ) (k t : ℕ) where
   module _ (same-k : k ≡ headOf s .«part_count») (same-t : t ≡ headOf s .«text_length») where
     pub stated : (leb k 100 && leb t 200) ≡ true → 50 + 16 * k + t ≡ statedLength s
     unfolding statedLength pick
-    stated e = let f : (leb (headOf s .«part_count») 100 && leb (headOf s .«text_length») 200) ≡ true = rw (same-k, same-t) at e in rw f (rw (same-k, same-t))
+    stated e = let f : (leb (headOf s .«part_count») 100 && leb (headOf s .«text_length») 200) ≡ true =
+        rw (same-k, same-t) at e in rw f (rw (same-k, same-t))
 
     pub not-stated : (leb k 100 && leb t 200) ≡ false → 48 ≡ statedLength s
     unfolding statedLength pick
-    not-stated e = let f : (leb (headOf s .«part_count») 100 && leb (headOf s .«text_length») 200) ≡ false = rw (same-k, same-t) at e in rw f
+    not-stated e = let f : (leb (headOf s .«part_count») 100 && leb (headOf s .«text_length») 200) ≡ false =
+        rw (same-k, same-t) at e in rw f

@@ -1,3 +1,4 @@
 pub mod Texts
 pub mod Counts
 pub mod RosterA
+pub mod Shown

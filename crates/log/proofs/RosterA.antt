@@ -1,5 +1,6 @@
 -- The definition's log of roster A's input is the one that paper 01 prints. Assumes nothing.
 use Prim.Native.Nat.{ℕ, _+_, _*_}
+use native.Mathlib.Omega.{arith}
 use mathlib.Core.Path.{_≡_, refl, ap, sym, _∙_}
 use mathlib.Core.Bool.{Bool, true, false, _&&_, false≢true}
 use mathlib.Core.List.{List, [], _∷_, _++_}
@@ -15,7 +16,9 @@ use Rattle.rules.specs.Block.{zeros}
 use Rattle.rules.specs.Cases.{Expected, rosterA, partBytes, reportBytes, sameAnswers, right, loggedReports, logged}
 use Rattle.rules.specs.Desk.{newRegister, setUp, answers}
 use Rattle.rules.proofs.Worked.{good, logged-right}
-use Rattle.log.specs.Log.{countOf, totalsOf}
+use Rattle.calendar.specs.Calendar.{daysIn, monthStart, monthOf, dateOf, dateText}
+use Rattle.calendar.proofs.Months.{month-here}
+use Rattle.log.specs.Log.{decimalBefore, logHeader, unitText, stampText, lineText, countOf, totalsOf, totalsLine}
 use Rattle.log.specs.Run.{entriesRead, statedLength, reportsRead, linesOf, shiftLog}
 use Rattle.log.specs.RosterA.{oneAfterOther, streamA, logA}
 
@@ -32,7 +35,8 @@ same-answers (e ∷ es) (a ∷ rest) p =
     let both = and-left (eqb (e .number) (a .number) && eqb (e .warnings) (a .warnings)) (sameAnswers es rest) p in
     let others = and-right (eqb (e .number) (a .number) && eqb (e .warnings) (a .warnings)) (sameAnswers es rest) p in
     let number = eqb-true (e .number) (a .number) (and-left (eqb (e .number) (a .number)) (eqb (e .warnings) (a .warnings)) both) in
-    let warned = eqb-true (e .warnings) (a .warnings) (and-right (eqb (e .number) (a .number)) (eqb (e .warnings) (a .warnings)) both) in
+    let warned = eqb-true (e .warnings) (a .warnings) (and-right (eqb (e .number) (a .number)) (eqb (e .warnings) (a .warnings))
+    both) in
     rw (number, warned, same-answers es rest others)
 
 answered : answers (newRegister rosterA) loggedReports ≡ expectedAnswers (logged .expected)
@@ -52,9 +56,20 @@ unfolding streamA rosterA bytesOf oneAfterOther reportBytes
 roster = refl
 
 reports : reportsRead (length streamA) (drop 56 streamA) ≡ loggedReports
-unfolding reportsRead statedLength pick and-each every all series uintAt sized marked whole streamA rosterA bytesOf oneAfterOther reportBytes partBytes
+unfolding reportsRead statedLength pick and-each every all series uintAt sized marked whole streamA rosterA bytesOf oneAfterOther
+    reportBytes partBytes
 reports = refl
 
+march : monthOf 9556 ≡ 314
+unfolding monthStart daysIn pick
+march = sym (month-here {day = 9556} {n = 314} {s = 9556} refl refl (omega arith))
+
+lines : logHeader ++ (linesOf 1 loggedReports (expectedAnswers (logged .expected)) ++ totalsLine
+    (totalsOf (expectedAnswers (logged .expected)))) ≡ logA
+unfolding linesOf lineText unitText stampText totalsLine dateOf dateText decimalBefore monthStart daysIn pick expectedAnswers
+    countOf uintAt bytesOf reportBytes partBytes
+lines = rw march
+
 pub roster-a-log : shiftLog streamA ≡ logA
-unfolding shiftLog pick expectedAnswers countOf
-roster-a-log = rw (two-entries, roster, set-up, reports, answered)
+unfolding shiftLog pick
+roster-a-log = rw (two-entries, roster, set-up, reports, answered) lines

@@ -1,3 +1,5 @@
+pub mod Ascii
 pub mod Log
+pub mod Remarks
 pub mod Run
 pub mod RosterA

@@ -10,6 +10,7 @@ use Rattle.calendar.specs.Calendar.{digit, dateOf, dateText}
 use Rattle.report.specs.Report.{headOf}
 use Rattle.rules.specs.declared.Answer.{Answer}
 use Rattle.log.specs.declared.Totals.{Totals}
+use Rattle.log.specs.Ascii.{ascii}
 
 -- a number in decimal, without leading zeros, before a text: up to `places` digits
 unfoldable pub decimalBefore : ℕ → ℕ → List ℕ → List ℕ
@@ -22,23 +23,23 @@ abbrev pub decimal : ℕ → List ℕ
 decimal n = decimalBefore 20 n []
 
 abbrev pub space : List ℕ
-space = 32 ∷ []
+space = ascii " "
 
 abbrev pub lineFeed : List ℕ
-lineFeed = 10 ∷ []
+lineFeed = ascii "\n"
 
 abbrev pub hyphen : List ℕ
-hyphen = 45 ∷ []
+hyphen = ascii "-"
 
--- "no unit answer warn stamp"
+abbrev pub headerText : List ℕ
+headerText = ascii "no unit answer warn stamp"
+
 abbrev pub logHeader : List ℕ
-logHeader =
-    110 ∷ 111 ∷ 32 ∷ 117 ∷ 110 ∷ 105 ∷ 116 ∷ 32 ∷ 97 ∷ 110 ∷ 115 ∷ 119 ∷ 101 ∷ 114 ∷ 32 ∷ 119 ∷ 97 ∷ 114 ∷ 110 ∷ 32 ∷ 115 ∷ 116 ∷ 97
-    ∷ 109 ∷ 112 ∷ 10 ∷ []
+logHeader = headerText ++ lineFeed
 
 -- "A roster fault, an entry cut short being 20, prints only "roster" and its number."
 unfoldable pub faultLine : ℕ → List ℕ
-faultLine number = (114 ∷ 111 ∷ 115 ∷ 116 ∷ 101 ∷ 114 ∷ 32 ∷ []) ++ decimal number ++ lineFeed
+faultLine number = ascii "roster " ++ decimal number ++ lineFeed
 
 -- "Unit and stamp are "-" after refusal 2; a stamp out of range is "-"."
 unfoldable pub unitText : ℕ → ℕ → List ℕ
@@ -50,10 +51,14 @@ stampText number stamp = pick (not (eqb number 2) && isTime stamp) (dateText (da
 abbrev pub numberColumn : ℕ → List ℕ
 numberColumn n = decimal n ++ space
 
-unfoldable pub logLine : ℕ → List ℕ → Answer → List ℕ
-logLine line s a =
+-- a report's line without its line feed
+unfoldable pub lineText : ℕ → List ℕ → Answer → List ℕ
+lineText line s a =
     numberColumn line ++ (unitText (a .number) (headOf s .unit) ++ space) ++ numberColumn (a .number) ++ numberColumn (a .warnings)
-    ++ (stampText (a .number) (headOf s .stamp) ++ lineFeed)
+    ++ stampText (a .number) (headOf s .stamp)
+
+abbrev pub logLine : ℕ → List ℕ → Answer → List ℕ
+logLine line s a = lineText line s a ++ lineFeed
 
 abbrev pub isClean : Answer → Bool
 isClean a = eqb (a .number) 0 && eqb (a .warnings) 0
@@ -71,9 +76,14 @@ countOf test (a ∷ rest) = pick (test a) 1 0 + countOf test rest
 
 -- "Totals: clean, warned, refused."
 abbrev pub totalsOf : List Answer → Totals
-totalsOf answers = record { clean = countOf isClean answers; warned = countOf isWarned answers; refused = countOf isRefused answers }
+totalsOf answers = record {
+  clean = countOf isClean answers;
+  warned = countOf isWarned answers;
+  refused = countOf isRefused
+      answers;
+}
 
 -- "total 2 1 2"
 unfoldable pub totalsLine : Totals → List ℕ
 totalsLine t =
-    (116 ∷ 111 ∷ 116 ∷ 97 ∷ 108 ∷ 32 ∷ []) ++ numberColumn (t .clean) ++ numberColumn (t .warned) ++ decimal (t .refused) ++ lineFeed
+    ascii "total " ++ numberColumn (t .clean) ++ numberColumn (t .warned) ++ decimal (t .refused) ++ lineFeed

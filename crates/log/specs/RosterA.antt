@@ -1,10 +1,8 @@
 -- Paper 01, "The shift log": roster A and its reports as one input, and the log that is printed there.
 use mathlib.Core.List.{List, [], _∷_, _++_}
 use Prim.Native.Nat.{ℕ}
-use Rattle.rules.specs.declared.Answer.{Answer}
 use Rattle.rules.specs.Cases.{rosterA, loggedReports}
-use Rattle.log.specs.Log.{logHeader, totalsLine}
-use Rattle.log.specs.Run.{linesOf}
+use Rattle.log.specs.Ascii.{ascii}
 
 unfoldable pub oneAfterOther : List (List ℕ) → List ℕ
 oneAfterOther [] = []
@@ -13,12 +11,13 @@ oneAfterOther (s ∷ ss) = s ++ oneAfterOther ss
 unfoldable pub streamA : List ℕ
 streamA = rosterA ++ oneAfterOther loggedReports
 
-abbrev answered : ℕ → ℕ → Answer
-answered number warnings = record { number = number; warnings = warnings }
-
--- "1 1 0 0 ..", "2 1 17 0 ..", "3 1 0 0 ..", "4 1 0 1 ..", "5 2 3 0 ..", "total 2 1 2"
+-- the log as paper 01 prints it
 abbrev pub logA : List ℕ
 logA =
-    logHeader
-    ++ (linesOf 1 loggedReports (answered 0 0 ∷ answered 17 0 ∷ answered 0 0 ∷ answered 0 1 ∷ answered 3 0 ∷ [])
-    ++ totalsLine (record { clean = 2; warned = 1; refused = 2 }))
+    ascii "no unit answer warn stamp\n"
+    ++ ascii "1 1 0 0 2026-03-01 00:10\n"
+    ++ ascii "2 1 17 0 2026-03-01 00:11\n"
+    ++ ascii "3 1 0 0 2026-03-01 00:11\n"
+    ++ ascii "4 1 0 1 2026-03-01 00:25\n"
+    ++ ascii "5 2 3 0 2026-03-01 00:26\n"
+    ++ ascii "total 2 1 2\n"

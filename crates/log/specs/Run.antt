@@ -15,6 +15,7 @@ use Rattle.log.specs.declared.Totals.{Totals}
 use Rattle.log.specs.declared.Progress.{Progress}
 use Rattle.log.specs.declared.Logged.{Logged}
 use Rattle.log.specs.Log.{isClean, isWarned, isRefused, totalsOf, logHeader, logLine, totalsLine, faultLine}
+use Rattle.log.specs.Remarks.{remarkLine}
 
 -- "reads roster entries while the mark, both bytes, is 4A 47, at most 8"
 abbrev pub entryBegins : List ℕ → Bool
@@ -65,19 +66,31 @@ progressAfter so-far a = record { lines = oneMore (so-far .lines); totals = coun
 abbrev pub atStart : Progress
 atStart = record { lines = 0; totals = record { clean = 0; warned = 0; refused = 0 } }
 
--- the line of a report that comes after others
-abbrev pub nextLine : Progress → List ℕ → Answer → List ℕ
-nextLine so-far s a = logLine (oneMore (so-far .lines)) s a
+-- the line of a report that comes after others, alone and with its remark
+abbrev pub nextLine : Progress → List ℕ → List ℕ → List ℕ
+nextLine so-far register s = logLine (oneMore (so-far .lines)) s (answerTo register s .answer)
 
--- the progress, the length of that line, and whether it ends the run
-abbrev pub loggedAfter : Progress → List ℕ → Answer → Logged
-loggedAfter so-far s a = record { progress = progressAfter so-far a; length = length (nextLine so-far s a); ends = eqb (a .number) 2 }
+abbrev pub nextRemarkLine : Progress → List ℕ → List ℕ → List ℕ
+nextRemarkLine so-far register s = remarkLine (oneMore (so-far .lines)) s (answerTo register s .answer)
+
+-- the progress, the length of the line that was written, and whether it ends the run
+abbrev pub loggedAt : Progress → Answer → ℕ → Logged
+loggedAt progress a n = record { progress = progress; length = n; ends = eqb (a .number) 2 }
+
+abbrev pub loggedWith : List ℕ → Progress → Answer → Logged
+loggedWith line so-far a = loggedAt (progressAfter so-far a) a (length line)
+
+abbrev pub loggedAfter : Progress → List ℕ → List ℕ → Logged
+loggedAfter so-far register s = loggedWith (nextLine so-far register s) so-far (answerTo register s .answer)
+
+abbrev pub remarkLogged : Progress → List ℕ → List ℕ → Logged
+remarkLogged so-far register s = loggedWith (nextRemarkLine so-far register s) so-far (answerTo register s .answer)
 
 -- the log step by step: each report's line, then the totals that the steps have counted
 unfoldable pub logFrom : Progress → List ℕ → List (List ℕ) → List ℕ
 logFrom so-far register [] = totalsLine (so-far .totals)
 logFrom so-far register (s ∷ ss) =
-    nextLine so-far s (answerTo register s .answer)
+    nextLine so-far register s
     ++ logFrom (progressAfter so-far (answerTo register s .answer)) (answerTo register s .after) ss
 
 -- the lines of a list of reports and of the answers to them

@@ -1,17 +1,20 @@
 // The shift log: a report's line and the totals as bytes, what a report adds to the log, and how the input is read.
-// No line is longer than 128 bytes; what a shorter text has no room for is left out.
+// No line is longer than 128 bytes, and none with a remark than 1,024; what a shorter text has no room for is left out.
 use quantities::Minute;
 use rules::Answer;
 ghost use mathlib.Core.Path.{_≡_};
 ghost use mathlib.Core.Bool.{Bool};
 ghost use mathlib.Core.List.{List, _++_};
-ghost use Prim.Native.Nat.{ℕ, _+_, _≤_};
+ghost use Prim.Native.Nat.{ℕ, _+_, _≤_, _<_};
 ghost use lib.ListN.{length};
 ghost use Rattle.fields.specs.Lists.{pick, put};
 ghost use Rattle.calendar.specs.Calendar.{digit as digitOf};
 ghost use Rattle.rules.specs.Desk.{answerTo};
-ghost use Rattle.log.specs.Log.{decimal, space, lineFeed, logHeader, faultLine, unitText, stampText, numberColumn, logLine, totalsLine};
-ghost use Rattle.log.specs.Run.{entryBegins, statedLength, mostCounted, oneMore, countAnswer, loggedAfter, atStart, nextLine, logFrom, logOf, shiftLog};
+ghost use Rattle.log.specs.Log.{decimal, space, lineFeed, logHeader, faultLine, unitText, stampText, numberColumn};
+ghost use Rattle.log.specs.Log.{lineText, logLine, totalsLine};
+ghost use Rattle.log.specs.Remarks.{hexDigit, shownByte, shown, remarkColumn, remarkLine, remarksHeader};
+ghost use Rattle.log.specs.Run.{entryBegins, statedLength, mostCounted, oneMore, countAnswer, progressAfter, atStart};
+ghost use Rattle.log.specs.Run.{loggedAt, loggedAfter, remarkLogged, nextLine, nextRemarkLine, logFrom, logOf, shiftLog};
 ghost use Rattle.log.specs.RosterA.{streamA, logA};
 
 // The reports accepted clean, accepted with warnings, and refused.
@@ -36,7 +39,7 @@ pub struct Logged {
 
 // Copies a text to `at`; the place after it.
 fn put_text(text: &mut [u8], at: usize, word: &[u8]) -> usize
-    requires { ⌜ (at ≤ 512) × (length (now word) ≤ 64) ⌝ }
+    requires { ⌜ (at ≤ 2048) × (length (now word) ≤ 64) ⌝ }
     ensures { λ r. ⌜ r ≡ at + length (now (word .entry)) ⌝ }
     ensures { λ _. ⌜ now (text .exit) ≡ put (now (text .entry)) at (now (word .entry)) ⌝ }
 {
@@ -77,7 +80,7 @@ fn put_number(text: &mut [u8], at: usize, n: u64) -> usize
     put_text(text, end, &[b' '])
 }
 
-fn put_unit(text: &mut [u8], at: usize, number: u8, unit: u16) -> usize
+fn put_unit(text: &mut [u8], at: usize, number: u8, unit: u32) -> usize
     requires { ⌜ at ≤ 128 ⌝ }
     ensures { λ r. ⌜ r ≤ at + 21 ⌝ }
     ensures { λ r. ⌜ r ≡ at + length (unitText number unit ++ space) ⌝ }
@@ -93,18 +96,31 @@ fn put_unit(text: &mut [u8], at: usize, number: u8, unit: u16) -> usize
 // The date, or "-".
 fn put_stamp(text: &mut [u8], at: usize, number: u8, stamp: Minute) -> usize
     requires { ⌜ at ≤ 128 ⌝ }
-    ensures { λ r. ⌜ r ≤ at + 17 ⌝ }
-    ensures { λ r. ⌜ r ≡ at + length (stampText number stamp ++ lineFeed) ⌝ }
-    ensures { λ _. ⌜ now (text .exit) ≡ put (now (text .entry)) at (stampText number stamp ++ lineFeed) ⌝ }
+    ensures { λ r. ⌜ r ≤ at + 16 ⌝ }
+    ensures { λ r. ⌜ r ≡ at + length (stampText number stamp) ⌝ }
+    ensures { λ _. ⌜ now (text .exit) ≡ put (now (text .entry)) at (stampText number stamp) ⌝ }
 {
     let mut date = [0u8; 16];
     calendar::print_date(stamp, &mut date);
     if (number != 2) & quantities::is_time(stamp) {
-        let end = put_text(text, at, &date);
-        put_text(text, end, &[b'\n'])
+        put_text(text, at, &date)
     } else {
-        put_text(text, at, &[b'-', b'\n'])
+        put_text(text, at, &[b'-'])
     }
+}
+
+// A report's line at the start of the text, without its line feed.
+fn put_line_text(text: &mut [u8], line: u64, report: &[u8], a: Answer) -> usize
+    ensures { λ r. ⌜ r ≤ 100 ⌝ }
+    ensures { λ r. ⌜ r ≡ length (lineText line (now (report .entry)) a) ⌝ }
+    ensures { λ _. ⌜ now (text .exit) ≡ put (now (text .entry)) 0 (lineText line (now (report .entry)) a) ⌝ }
+{
+    let h = reader::line_head(report);
+    let unit_at = put_number(text, 0, line);
+    let number_at = put_unit(text, unit_at, a.number, h.unit);
+    let warnings_at = put_number(text, number_at, a.number as u64);
+    let stamp_at = put_number(text, warnings_at, a.warnings as u64);
+    put_stamp(text, stamp_at, a.number, h.stamp)
 }
 
 // The line of a report with its answer, at the start of the text; its length.
@@ -113,12 +129,68 @@ pub fn put_line(text: &mut [u8], line: u64, report: &[u8], a: Answer) -> usize
     ensures { λ r. ⌜ r ≡ length (logLine line (now (report .entry)) a) ⌝ }
     ensures { λ _. ⌜ now (text .exit) ≡ put (now (text .entry)) 0 (logLine line (now (report .entry)) a) ⌝ }
 {
-    let h = reader::line_head(report);
-    let unit_at = put_number(text, 0, line);
-    let number_at = put_unit(text, unit_at, a.number, h.unit);
-    let warnings_at = put_number(text, number_at, a.number as u64);
-    let stamp_at = put_number(text, warnings_at, a.warnings as u64);
-    put_stamp(text, stamp_at, a.number, h.stamp)
+    let end = put_line_text(text, line, report, a);
+    put_text(text, end, &[b'\n'])
+}
+
+fn hex_digit(n: u8) -> u8
+    requires { ⌜ n < 16 ⌝ }
+    ensures { λ r. ⌜ r ≡ hexDigit n ⌝ }
+{
+    if n < 10 { 48 + n } else { 87 + n }
+}
+
+fn put_shown_byte(text: &mut [u8], at: usize, b: u8) -> usize
+    requires { ⌜ at ≤ 1024 ⌝ }
+    ensures { λ r. ⌜ r ≤ at + 4 ⌝ }
+    ensures { λ r. ⌜ r ≡ at + length (shownByte b) ⌝ }
+    ensures { λ _. ⌜ now (text .exit) ≡ put (now (text .entry)) at (shownByte b) ⌝ }
+{
+    if b == b'\\' {
+        return put_text(text, at, b"\\\\");
+    }
+    if (0x20 <= b) & (b <= 0x7E) {
+        return put_text(text, at, &[b]);
+    }
+    let digits_at = put_text(text, at, b"\\x");
+    put_text(text, digits_at, &[hex_digit(b / 16), hex_digit(b % 16)])
+}
+
+// The bytes of a remark as they are shown.
+fn put_shown(text: &mut [u8], at: usize, bytes: &[u8]) -> usize
+    requires { ⌜ (at ≤ 128) × (length (now bytes) ≤ 200) ⌝ }
+    ensures { λ r. ⌜ r ≤ at + 800 ⌝ }
+    ensures { λ r. ⌜ r ≡ at + length (shown (now (bytes .entry))) ⌝ }
+    ensures { λ _. ⌜ now (text .exit) ≡ put (now (text .entry)) at (shown (now (bytes .entry))) ⌝ }
+{
+    let mut end = at;
+    for j in 0..bytes.len() {
+        end = put_shown_byte(text, end, bytes[j]);
+    }
+    end
+}
+
+fn put_remark(text: &mut [u8], at: usize, report: &[u8]) -> usize
+    requires { ⌜ at ≤ 100 ⌝ }
+    ensures { λ r. ⌜ r ≤ at + 803 ⌝ }
+    ensures { λ r. ⌜ r ≡ at + length (remarkColumn (now (report .entry))) ⌝ }
+    ensures { λ _. ⌜ now (text .exit) ≡ put (now (text .entry)) at (remarkColumn (now (report .entry))) ⌝ }
+{
+    let mut number = 0u8;
+    let remark_at = put_text(text, at, b" | ");
+    let remark = report::remark(report, b"no remark", &mut number);
+    put_shown(text, remark_at, remark)
+}
+
+// The line of a report with its answer and its remark.
+pub fn put_remark_line(text: &mut [u8], line: u64, report: &[u8], a: Answer) -> usize
+    ensures { λ r. ⌜ r ≤ 1024 ⌝ }
+    ensures { λ r. ⌜ r ≡ length (remarkLine line (now (report .entry)) a) ⌝ }
+    ensures { λ _. ⌜ now (text .exit) ≡ put (now (text .entry)) 0 (remarkLine line (now (report .entry)) a) ⌝ }
+{
+    let remark_at = put_line_text(text, line, report, a);
+    let end = put_remark(text, remark_at, report);
+    put_text(text, end, &[b'\n'])
 }
 
 pub fn put_totals(text: &mut [u8], t: Totals) -> usize
@@ -139,6 +211,14 @@ pub fn put_header(text: &mut [u8]) -> usize
     ensures { λ _. ⌜ now (text .exit) ≡ put (now (text .entry)) 0 logHeader ⌝ }
 {
     put_text(text, 0, b"no unit answer warn stamp\n")
+}
+
+pub fn put_remarks_header(text: &mut [u8]) -> usize
+    ensures { λ r. ⌜ r ≤ 128 ⌝ }
+    ensures { λ r. ⌜ r ≡ length remarksHeader ⌝ }
+    ensures { λ _. ⌜ now (text .exit) ≡ put (now (text .entry)) 0 remarksHeader ⌝ }
+{
+    put_text(text, 0, b"no unit answer warn stamp | remark\n")
 }
 
 // What is printed where set-up refuses the roster.
@@ -185,25 +265,50 @@ pub fn at_start() -> Progress
     Progress { lines: 0, totals }
 }
 
-// Answers a report on the register, and puts its line at the start of the text.
-pub fn log_report(register: &mut [u8], report: &[u8], so_far: Progress, text: &mut [u8]) -> Logged
-    ensures { λ r. ⌜ r .length ≤ 128 ⌝ }
-    ensures { λ r. ⌜ r ≡ loggedAfter «so_far» (now (report .entry)) (answerTo (now (register .entry)) (now (report .entry)) .answer) ⌝ }
-    ensures { λ _. ⌜ now (text .exit) ≡ put (now (text .entry)) 0 (nextLine «so_far» (now (report .entry)) (answerTo (now (register .entry)) (now (report .entry)) .answer)) ⌝ }
-    ensures { λ _. ⌜ now (register .exit) ≡ answerTo (now (register .entry)) (now (report .entry)) .after ⌝ }
+fn progress_after(so_far: Progress, a: Answer) -> Progress
+    ensures { λ r. ⌜ r ≡ progressAfter «so_far» a ⌝ }
 {
-    let a = desk::answer_report(register, report);
     let lines = one_more(so_far.lines);
-    let length = put_line(text, lines, report, a);
     let known = so_far.totals;
     let totals = count_answer(known, a);
-    let progress = Progress { lines, totals };
+    Progress { lines, totals }
+}
+
+fn logged_at(progress: Progress, a: Answer, length: usize) -> Logged
+    ensures { λ r. ⌜ r ≡ loggedAt progress a length ⌝ }
+{
     let ends = a.number == 2;
     Logged {
         progress,
         length,
         ends,
     }
+}
+
+// Answers a report on the register, and puts its line at the start of the text.
+pub fn log_report(register: &mut [u8], report: &[u8], so_far: Progress, text: &mut [u8]) -> Logged
+    ensures { λ r. ⌜ r .length ≤ 128 ⌝ }
+    ensures { λ r. ⌜ r ≡ loggedAfter «so_far» (now (register .entry)) (now (report .entry)) ⌝ }
+    ensures { λ _. ⌜ now (text .exit) ≡ put (now (text .entry)) 0 (nextLine «so_far» (now (register .entry)) (now (report .entry))) ⌝ }
+    ensures { λ _. ⌜ now (register .exit) ≡ answerTo (now (register .entry)) (now (report .entry)) .after ⌝ }
+{
+    let a = desk::answer_report(register, report);
+    let progress = progress_after(so_far, a);
+    let length = put_line(text, progress.lines, report, a);
+    logged_at(progress, a, length)
+}
+
+// The same, with the remark beside the line.
+pub fn log_remark(register: &mut [u8], report: &[u8], so_far: Progress, text: &mut [u8]) -> Logged
+    ensures { λ r. ⌜ r .length ≤ 1024 ⌝ }
+    ensures { λ r. ⌜ r ≡ remarkLogged «so_far» (now (register .entry)) (now (report .entry)) ⌝ }
+    ensures { λ _. ⌜ now (text .exit) ≡ put (now (text .entry)) 0 (nextRemarkLine «so_far» (now (register .entry)) (now (report .entry))) ⌝ }
+    ensures { λ _. ⌜ now (register .exit) ≡ answerTo (now (register .entry)) (now (report .entry)) .after ⌝ }
+{
+    let a = desk::answer_report(register, report);
+    let progress = progress_after(so_far, a);
+    let length = put_remark_line(text, progress.lines, report, a);
+    logged_at(progress, a, length)
 }
 
 // Another roster entry begins here: both bytes of its mark.

@@ -1,44 +1,51 @@
--- "The shift log goes through a report with a reader that holds the report and its place": what is read at a place, and where the reader then stands.
+-- "The shift log goes through a report with a reader that holds the report and its place": what is read at a place, and where the
+-- reader then stands.
 use Prim.Native.Nat.{ℕ, _+_}
 use mathlib.Core.List.{List}
-use lib.Dec.{leb}
+use lib.Dec.{leb, eqb}
 use denote.Ref.{RefT, now}
-use Rattle.fields.specs.Fields.{u16At}
+use Rattle.fields.specs.Fields.{uintAt}
 use Rattle.fields.specs.Lists.{pick}
-use Rattle.quantities.specs.declared.Minute.{Minute}
-use Rattle.quantities.specs.Quantities.{minuteAt}
 use Rattle.report.specs.Report.{headOf}
+use Rattle.reader.specs.declared.Cursor.{Cursor}
 use Rattle.reader.specs.declared.LineHead.{LineHead}
 use Rattle.reader.specs.declared.Reader.{Reader}
-use Rattle.reader.specs.declared.TakenMinute.{TakenMinute}
-use Rattle.reader.specs.declared.TakenU16.{TakenU16}
+use Rattle.reader.specs.declared.Taken.{Taken}
 
 -- the highest number that a place can be
 abbrev pub highest : ℕ
 highest = 18446744073709551615
 
--- the place n bytes on
+-- the place n bytes on, and the cursor there
 unfoldable pub placePast : ℕ → ℕ → ℕ
 placePast place n = pick (leb (place + n) highest) (place + n) highest
 
-abbrev pub u16Taken : List ℕ → ℕ → TakenU16
-u16Taken s place = record { value = u16At s place; place = placePast place 2 }
+abbrev pub cursorPast : Cursor → ℕ → Cursor
+cursorPast c n = record { place = placePast (c .place) n }
 
-abbrev pub minuteTaken : List ℕ → ℕ → TakenMinute
-minuteTaken s place = record { value = minuteAt s place; place = placePast place 4 }
+-- a number is two bytes wide or four
+abbrev pub bytesWide : ℕ → ℕ
+bytesWide width = pick (eqb width 2) 2 4
 
-abbrev pub readerAt : RefT (List ℕ) → ℕ → Reader
-readerAt report place = record { report = report; place = place }
+-- the number that begins `gap` bytes on, and the cursor after it
+abbrev pub taken : List ℕ → Cursor → ℕ → ℕ → Taken
+taken s c gap width = record {
+  value = uintAt (bytesWide width) s (cursorPast c gap .place);
+  next = cursorPast (cursorPast c gap) (bytesWide width);
+}
 
--- what stands where a reader stands, and the reader n bytes on
-abbrev pub u16Here : Reader → ℕ
-u16Here r = u16At (now (r .report)) (r .place)
+abbrev pub atFirst : Cursor
+atFirst = record { place = 0 }
 
-abbrev pub minuteHere : Reader → Minute
-minuteHere r = minuteAt (now (r .report)) (r .place)
+abbrev pub readerAt : RefT (List ℕ) → Cursor → Reader
+readerAt report c = record { report = report; cursor = c }
 
-abbrev pub movedOn : Reader → ℕ → Reader
-movedOn r n = readerAt (r .report) (placePast (r .place) n)
+-- what a reader takes, and the reader after it
+abbrev pub takenHere : Reader → ℕ → ℕ → Taken
+takenHere r gap width = taken (now (r .report)) (r .cursor) gap width
+
+abbrev pub movedOn : Reader → ℕ → ℕ → Reader
+movedOn r gap width = readerAt (r .report) (takenHere r gap width .next)
 
 -- the head's fields that a line of the log shows, and those that say the report's length
 abbrev pub lineHead : List ℕ → LineHead

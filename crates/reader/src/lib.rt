@@ -1,87 +1,77 @@
 // A reader that holds a report and its place, and the head's fields that a line of the shift log shows.
 use quantities::Minute;
 ghost use mathlib.Core.Path.{_≡_};
-ghost use Rattle.reader.specs.Reading.{placePast, u16Taken, minuteTaken, readerAt, u16Here, minuteHere, movedOn, lineHead};
+ghost use Rattle.reader.specs.Reading.{cursorPast, taken, atFirst, readerAt, takenHere, movedOn, lineHead};
+
+// A place in a report.
+pub struct Cursor {
+    pub place: usize,
+}
+
+// A number, and the cursor after it.
+pub struct Taken {
+    pub value: u32,
+    pub next: Cursor,
+}
 
 pub struct Reader<'a> {
     pub report: &'a [u8],
-    pub place: usize,
-}
-
-pub struct TakenU16 {
-    pub value: u16,
-    pub place: usize,
-}
-
-pub struct TakenMinute {
-    pub value: Minute,
-    pub place: usize,
+    pub cursor: Cursor,
 }
 
 pub struct LineHead {
-    pub unit: u16,
-    pub part_count: u16,
+    pub unit: u32,
+    pub part_count: u32,
     pub stamp: Minute,
-    pub text_length: u16,
+    pub text_length: u32,
 }
 
-// The place n bytes on. It stops at the highest number that a place can be.
-pub fn past(place: usize, n: usize) -> usize
-    ensures { λ r. ⌜ r ≡ placePast place n ⌝ }
+// The cursor n bytes on. It stops at the highest number that a place can be.
+pub fn past(c: Cursor, n: usize) -> Cursor
+    ensures { λ r. ⌜ r ≡ cursorPast c n ⌝ }
 {
+    let place = c.place;
     if n <= 18446744073709551615 - place {
-        place + n
+        Cursor { place: place + n }
     } else {
-        18446744073709551615
+        Cursor {
+            place: 18446744073709551615,
+        }
     }
 }
 
-// What stands at a place, and the place after it.
-pub fn take_u16(report: &[u8], place: usize) -> TakenU16
-    ensures { λ r. ⌜ r ≡ u16Taken (now (report .entry)) place ⌝ }
+// The number that begins `gap` bytes on, two bytes wide or else four.
+pub fn take(report: &[u8], c: Cursor, gap: usize, width: usize) -> Taken
+    ensures { λ r. ⌜ r ≡ taken (now (report .entry)) c gap width ⌝ }
 {
-    TakenU16 {
-        value: fields::u16_at(report, place),
-        place: past(place, 2),
+    let from = past(c, gap);
+    if width == 2 {
+        let next = past(from, 2);
+        return Taken {
+            value: fields::u16_at(report, from.place) as u32,
+            next,
+        };
     }
-}
-
-pub fn take_minute(report: &[u8], place: usize) -> TakenMinute
-    ensures { λ r. ⌜ r ≡ minuteTaken (now (report .entry)) place ⌝ }
-{
-    let value = quantities::minute_at(report, place);
-    TakenMinute {
-        value,
-        place: past(place, 4),
+    let next = past(from, 4);
+    Taken {
+        value: fields::u32_at(report, from.place),
+        next,
     }
 }
 
 // A reader at the report's start.
 pub fn start<'a>(report: &'a [u8]) -> Reader<'a>
-    ensures { λ r. ⌜ r ≡ readerAt (report .entry) 0 ⌝ }
+    ensures { λ r. ⌜ r ≡ readerAt (report .entry) atFirst ⌝ }
 {
-    Reader { report, place: 0 }
+    let cursor = Cursor { place: 0 };
+    Reader { report, cursor }
 }
 
-pub fn skip<'s, 'a>(r: &'s mut Reader<'a>, n: usize)
-    ensures { λ _. ⌜ now (r .exit) ≡ movedOn (now (r .entry)) n ⌝ }
+pub fn read<'s, 'a>(r: &'s mut Reader<'a>, gap: usize, width: usize) -> u32
+    ensures { λ v. ⌜ (v ≡ takenHere (now (r .entry)) gap width .value) × (now (r .exit) ≡ movedOn (now (r .entry)) gap width) ⌝ }
 {
-    r.place = past(r.place, n);
-}
-
-pub fn read_u16<'s, 'a>(r: &'s mut Reader<'a>) -> u16
-    ensures { λ v. ⌜ (v ≡ u16Here (now (r .entry))) × (now (r .exit) ≡ movedOn (now (r .entry)) 2) ⌝ }
-{
-    let t = take_u16(r.report, r.place);
-    r.place = t.place;
-    t.value
-}
-
-pub fn read_minute<'s, 'a>(r: &'s mut Reader<'a>) -> Minute
-    ensures { λ v. ⌜ (v ≡ minuteHere (now (r .entry))) × (now (r .exit) ≡ movedOn (now (r .entry)) 4) ⌝ }
-{
-    let t = take_minute(r.report, r.place);
-    r.place = t.place;
+    let t = take(r.report, r.cursor, gap, width);
+    r.cursor = t.next;
     t.value
 }
 
@@ -90,14 +80,10 @@ pub fn line_head(report: &[u8]) -> LineHead
     ensures { λ r. ⌜ r ≡ lineHead (now (report .entry)) ⌝ }
 {
     let mut r = start(report);
-    skip(&mut r, 2);
-    let unit = read_u16(&mut r);
-    skip(&mut r, 10);
-    let part_count = read_u16(&mut r);
-    skip(&mut r, 16);
-    let stamp = read_minute(&mut r);
-    skip(&mut r, 8);
-    let text_length = read_u16(&mut r);
+    let unit = read(&mut r, 2, 2);
+    let part_count = read(&mut r, 10, 2);
+    let stamp = Minute(read(&mut r, 16, 4));
+    let text_length = read(&mut r, 8, 2);
     LineHead {
         unit,
         part_count,

@@ -26,12 +26,17 @@ unfolding zeros
 zeros-head n m = sym (replicate-append-replicate n m 0)
 
 -- the writes on zeros, as paper 01's list of bytes
-written : (tail : List ℕ) (unit : ℕ) (e : RosterEntry) → putPowers (putFreshRow (putUnit (zeros 64 ++ tail) unit (e .owner) (e .kind)) (e .row)) (e .powers) ≡ headBytes (record { unit = unit; owner = e .owner; kind = e .kind; row = e .row; «last_stamp» = e .row .since; powers = e .powers }) ++ tail
+written : (tail : List ℕ) (unit : ℕ) (e : RosterEntry)
+    → putPowers (putFreshRow (putUnit (zeros 64 ++ tail) unit (e .owner) (e .kind)) (e .row)) (e .powers) ≡ headBytes
+    (record { unit = unit; owner = e .owner; kind = e .kind; row = e .row; «last_stamp» = e .row .since; powers = e .powers }) ++
+    tail
 unfolding putPowers putFreshRow putUnit headBytes put bytesOf zeros
 written tail unit e = refl
 
 -- a block cleared and written, one group of fields after the other
-pub fresh-written : (unit : ℕ) (e : RosterEntry) (first : List ℕ) {a b c d : List ℕ} → length first ≡ blockSize → a ≡ zeros (length first) → b ≡ putUnit a unit (e .owner) (e .kind) → c ≡ putFreshRow b (e .row) → d ≡ putPowers c (e .powers) → d ≡ freshBlock unit e
+pub fresh-written : (unit : ℕ) (e : RosterEntry) (first : List ℕ) {a b c d : List ℕ} → length first ≡ blockSize
+    → a ≡ zeros (length first) → b ≡ putUnit a unit (e .owner) (e .kind) → c ≡ putFreshRow b (e .row)
+    → d ≡ putPowers c (e .powers) → d ≡ freshBlock unit e
 unfolding freshBlock
 fresh-written unit e first {a} {b} {c} {d} long cleared named rowed powered =
     let zero : a ≡ zeros 64 ++ zeros (slotSize * slotCount) = cleared ∙ ap zeros long ∙ zeros-head 64 (slotSize * slotCount) in
@@ -39,7 +44,16 @@ fresh-written unit e first {a} {b} {c} {d} long cleared named rowed powered =
 
 fresh-length : (unit : ℕ) (e : RosterEntry) → length (freshBlock unit e) ≡ blockSize
 unfolding freshBlock headBytes bytesOf zeros
-fresh-length unit e = length-append (headBytes (record { unit = unit; owner = e .owner; kind = e .kind; row = e .row; «last_stamp» = e .row .since; powers = e .powers })) (zeros (slotSize * slotCount)) ∙ ap (λ (n : ℕ). 64 + n) (length-replicate {A = ℕ} (slotSize * slotCount) 0)
+fresh-length unit e =
+    length-append (headBytes (record {
+      unit = unit;
+      owner = e .owner;
+      kind = e .kind;
+      row = e .row;
+      «last_stamp» = e .row .since;
+      powers = e .powers;
+    })) (zeros (slotSize * slotCount)) ∙ ap (λ (n : ℕ). 64 + n)
+    (length-replicate {A = ℕ} (slotSize * slotCount) 0)
 
 -- the block of a unit of the roster
 abbrev pub fresh : List ℕ → ℕ → List ℕ
@@ -56,11 +70,14 @@ pub blocks-none : (s : List ℕ) (f : ℕ → List ℕ) → s ≡ put s 0 (joine
 unfolding joined
 blocks-none s f = sym (put-nothing s 0)
 
-block-more : (roster first now : List ℕ) (i : ℕ) {z : List ℕ} {e : RosterEntry} → z ≡ part roster (entrySize * i) entrySize → e ≡ entryOf z → now ≡ put first 0 (joined (fresh roster) 1 i) → put now (blockSize * i) (freshBlock (i + 1) e) ≡ put first 0 (joined (fresh roster) 1 (i + 1))
+block-more : (roster first now : List ℕ) (i : ℕ) {z : List ℕ} {e : RosterEntry} → z ≡ part roster (entrySize * i) entrySize
+    → e ≡ entryOf z → now ≡ put first 0 (joined (fresh roster) 1 i)
+    → put now (blockSize * i) (freshBlock (i + 1) e) ≡ put first 0 (joined (fresh roster) 1 (i + 1))
 block-more roster first now i {z} {e} read decoded before =
     let k : i + 1 - 1 ≡ i = omega arith in
     let here : freshBlock (i + 1) e ≡ fresh roster (i + 1) = ap (freshBlock (i + 1)) (decoded ∙ ap entryOf (read ∙ rw k)) in
-    let long : 0 + length (joined (fresh roster) 1 i) ≡ blockSize * i = zero-add _ ∙ joined-length blockSize (fresh roster) 1 i (λ v a b. fresh-length v _) in
+    let long : 0 + length (joined (fresh roster) 1 i) ≡ blockSize * i =
+    zero-add _ ∙ joined-length blockSize (fresh roster) 1 i (λ v a b. fresh-length v _) in
     rw (here, before, ← long)
     (sym (put-append (joined (fresh roster) 1 i) (fresh roster (i + 1)) first 0))
     ∙ ap (put first 0) (sym (joined-on (fresh roster) i))
@@ -69,10 +86,18 @@ pub block-room : (s : List ℕ) (at : ℕ) → at + blockSize ≤ length s → l
 block-room s at h = ap length (part-lent s at blockSize) ∙ part-length s at blockSize h
 
 -- the block of the turn was lent and came back as vs
-pub block-lent : (roster first now : List ℕ) (i : ℕ) {z vs : List ℕ} {e : RosterEntry} → z ≡ part roster (entrySize * i) entrySize → e ≡ entryOf z → length now ≡ length first → now ≡ put first 0 (joined (fresh roster) 1 i) → blockSize * i + blockSize ≤ length now → length vs ≡ length (take (blockSize * i + blockSize - blockSize * i) (drop (blockSize * i) now)) → vs ≡ freshBlock (i + 1) e → let after = take (blockSize * i) now ++ (vs ++ drop (blockSize * i + blockSize - blockSize * i) (drop (blockSize * i) now)) in (length after ≡ length first) × (after ≡ put first 0 (joined (fresh roster) 1 (i + 1)))
+pub block-lent : (roster first now : List ℕ) (i : ℕ) {z vs : List ℕ} {e : RosterEntry} → z ≡ part roster (entrySize * i) entrySize
+    → e ≡ entryOf z → length now ≡ length first → now ≡ put first 0 (joined (fresh roster) 1 i)
+    → blockSize * i + blockSize ≤ length now
+    → length vs ≡ length (take (blockSize * i + blockSize - blockSize * i) (drop (blockSize * i) now)) → vs ≡ freshBlock (i + 1) e
+    → let after = take (blockSize * i) now ++ (vs ++ drop (blockSize * i + blockSize - blockSize * i)
+    (drop (blockSize * i) now)) in (length after ≡ length first) × (after ≡ put first 0 (joined (fresh roster) 1 (i + 1)))
 block-lent roster first now i {z} {vs} {e} read decoded same before room kept left =
-    let back = lent-back (λ b. freshBlock (i + 1) e) now (blockSize * i) blockSize vs room kept left in
-    (ap length back ∙ put-length now (blockSize * i) (freshBlock (i + 1) e) ∙ same, back ∙ block-more roster first now i read decoded before)
+    let back = lent-back (λ b. freshBlock (i + 1) e) now (blockSize * i) blockSize vs room kept left in (
+      ap length back ∙ put-length now (blockSize * i) (freshBlock (i + 1) e) ∙ same,
+      back ∙ block-more roster first now i read
+          decoded before,
+    )
 
 put-all : (s vs : List ℕ) → length vs ≡ length s → put s 0 vs ≡ vs
 unfolding put
@@ -81,7 +106,8 @@ put-all s vs e =
     let rest : drop (0 + length vs) s ≡ [] = drop-of-length-le s past in
     sets-eq vs s 0 (omega arith) ∙ rw rest (append-nil vs)
 
-pub blocks-all : (roster first : List ℕ) (n : ℕ) → length first ≡ blockSize * n → put first 0 (joined (fresh roster) 1 n) ≡ joined (fresh roster) 1 n
+pub blocks-all : (roster first : List ℕ) (n : ℕ) → length first ≡ blockSize * n
+    → put first 0 (joined (fresh roster) 1 n) ≡ joined (fresh roster) 1 n
 blocks-all roster first n l =
     put-all first _ (joined-length blockSize (fresh roster) 1 n (λ v a b. fresh-length v _) ∙ sym l)
 
@@ -115,7 +141,8 @@ module _ (roster buffer : List ℕ) {k : ℕ} (asked : k ≡ refusalOf roster (l
   pub refused : (k ≡ 0 → ⊥) → Done roster buffer k buffer
   unfolding refusalOf setUp pick
   refused h = by-case (rosterGood roster) (eqb (length buffer) (blockSize * units roster)) refl refl where
-    by-case : (g l : Bool) → rosterGood roster ≡ g → eqb (length buffer) (blockSize * units roster) ≡ l → Done roster buffer k buffer
+    by-case : (g l : Bool) → rosterGood roster ≡ g → eqb (length buffer) (blockSize * units roster) ≡ l
+        → Done roster buffer k buffer
     by-case true true p q = absurd (h (asked ∙ rw (p, q)))
     by-case true false p q = rw (p, q) (asked ∙ rw (p, q), refl)
     by-case false l p q = rw p (asked ∙ rw p, refl)
@@ -124,7 +151,8 @@ module _ (roster buffer : List ℕ) {k : ℕ} (asked : k ≡ refusalOf roster (l
     pub room : Room roster (length buffer)
     unfolding refusalOf pick
     room = by-case (rosterGood roster) (eqb (length buffer) (blockSize * units roster)) refl refl where
-      by-case : (g l : Bool) → rosterGood roster ≡ g → eqb (length buffer) (blockSize * units roster) ≡ l → Room roster (length buffer)
+      by-case : (g l : Bool) → rosterGood roster ≡ g → eqb (length buffer) (blockSize * units roster) ≡ l
+          → Room roster (length buffer)
       by-case true true p q = record { good = p; fits = eqb-true _ _ q }
       by-case true false p q =
           let e : k ≡ 21 = asked ∙ rw (p, q) in

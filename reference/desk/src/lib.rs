@@ -15,6 +15,14 @@ extern "C" {
         report: *const u8,
         report_len: usize,
     ) -> u32;
+    fn desk_remark(
+        report: *const u8,
+        report_len: usize,
+        standing: *const u8,
+        standing_len: usize,
+        place: *mut u64,
+        length: *mut u64,
+    ) -> u32;
 }
 
 /// Set-up: 0, 20 or 21.
@@ -42,4 +50,23 @@ pub fn answer(register: &mut [u8], report: &[u8]) -> (u32, u32) {
         )
     };
     (packed % 256, packed / 256)
+}
+
+/// The remark's number, 0 or 2, and the stretch that it is of one of the two.
+pub fn remark<'a>(report: &'a [u8], standing: &'a [u8]) -> (u32, &'a [u8]) {
+    let (mut place, mut length) = (0, 0);
+    // SAFETY: as for set-up; the two numbers are locals of their own.
+    let packed = unsafe {
+        desk_remark(
+            report.as_ptr(),
+            report.len(),
+            standing.as_ptr(),
+            standing.len(),
+            &mut place,
+            &mut length,
+        )
+    };
+    let slice = if packed / 256 == 1 { standing } else { report };
+    let start = place as usize;
+    (packed % 256, &slice[start..start + length as usize])
 }

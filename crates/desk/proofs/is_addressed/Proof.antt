@@ -8,10 +8,16 @@ use Rattle.desk.proofs.is_addressed.Statement.{statement}
 use Rattle.desk.proofs.is_addressed.Tie as tie
 
 sub-slice-at : tie.Need-sub-slice-at
-sub-slice-at c = omega (arith, range-true 1 (length (c .before .before .before .before .before .args .register .now) / 7168) (c .before .before .head-of .result .unit) (c .if1 .taken))
+sub-slice-at c = omega (
+  arith,
+  range-true 1 (length (c .before .before .before .before .before .args .register .now) / 7168)
+      (c .before .before .head-of .result .unit) (c .if1 .taken),
+)
 
 returns : tie.Need-returns
-returns c = owner-asked _ _ (c .before .before .before .before .before .before .head-of .ensures) (c .before .before .before .before .if1 .taken) (c .before .before .before .slice-at .ensures) (c .before .before .unit-head .ensures)
+returns c = owner-asked _ _ (c .before .before .before .before .before .before .head-of .ensures)
+    (c .before .before .before .before .if1 .taken) (c .before .before .before .slice-at .ensures)
+    (c .before .before .unit-head .ensures)
 
 returns-2 : tie.Need-returns-2
 returns-2 c = no-unit _ _ (c .before .before .head-of .ensures) (c .if1 .left)

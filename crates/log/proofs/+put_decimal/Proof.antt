@@ -39,7 +39,11 @@ pub +put-decimal-spec : {M : Type 1} → statement M
     (λ c κs. search needs)
     (λ c. omega arith)
     (λ c. search needs)
-    (λ c. (omega arith, one-digit _ _ _ _ _ (search needs) (c .before .before .before .digit .ensures) (c .before .before .put-u8 .ensures)))
+    (λ c. (
+      omega arith,
+      one-digit _ _ _ _ _ (search needs) (c .before .before .before .digit .ensures)
+          (c .before .before .put-u8 .ensures),
+    ))
     -- put-decimal, digit, put-u8, add, same-length, returns
     (λ c κs. (omega arith, omega arith))
     (λ c κs. search needs)
@@ -47,5 +51,14 @@ pub +put-decimal-spec : {M : Type 1} → statement M
     (λ c. omega arith)
     (λ c. search needs)
     (λ c.
-    let grown = digit-more _ _ _ _ _ _ _ (search needs) (search needs) (c .before .before .before .before .before .before .before .put-decimal .ensures .1) (c .before .before .before .digit2 .ensures) (c .before .before .put-u82 .ensures) in
-    (omega (arith, grown .0, decimal-length 20 (c .before .before .before .before .before .before .before .before .before .before .before .args .n) []), grown))
+    let grown = digit-more _ _ _ _ _ _ _ (search needs) (search needs)
+    (c .before .before .before .before .before .before .before .put-decimal .ensures .1)
+    (c .before .before .before .digit2 .ensures) (c .before .before .put-u82 .ensures) in (
+      omega (
+        arith,
+        grown .0,
+        decimal-length 20
+            (c .before .before .before .before .before .before .before .before .before .before .before .args .n) [],
+      ),
+      grown,
+    ))

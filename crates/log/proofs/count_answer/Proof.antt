@@ -5,7 +5,11 @@ use Rattle.log.proofs.count_answer.Tie as tie
 
 returns : tie.Need-returns
 unfolding countAnswer
-returns c = rw (c .before .before .before .before .before .counted .ensures, c .before .before .counted2 .ensures, c .counted3 .ensures)
+returns c = rw (
+  c .before .before .before .before .before .counted .ensures,
+  c .before .before .counted2 .ensures,
+  c .counted3 .ensures,
+)
 
 pub count-answer-spec : {M : Type 1} → statement M
 count-answer-spec =

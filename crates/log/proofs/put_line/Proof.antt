@@ -1,31 +1,20 @@
 use native.Mathlib.Omega.{arith}
-use mathlib.Core.Path.{ap}
-use Rattle.reader.specs.declared.LineHead.{LineHead}
-use Rattle.log.proofs.Texts.{line-put}
+use Rattle.log.proofs.Texts.{line-then}
 use borrow.Author.Needs.{needs}
 use Rattle.log.proofs.put_line.Statement.{statement}
 use Rattle.log.proofs.put_line.Tie as tie
 
 returns : tie.Need-returns
 returns c =
-    let stamp = c .before .before in
-    let warnings = stamp .before .before .before .before in
-    let number = warnings .before .before .before .before .before in
-    let unit = number .before .before .before .before .before in
-    let line = unit .before .before .before .before in
-    (omega arith, line-put _ _ _ _ _ _ _ _ _ _ _ _ _ _ _ _ (ap (λ (h : LineHead). h .unit) (line .before .before .line-head .ensures)) (ap (λ (h : LineHead). h .stamp) (line .before .before .line-head .ensures)) (line .put-number .ensures .1) (unit .put-unit .ensures .1) (number .put-number2 .ensures .1) (warnings .put-number3 .ensures .1) (stamp .put-stamp .ensures .1))
+    let line = c .before .before .before .before .before .before .before in
+    (omega arith, line-then _ _ _ _ _ _ _ (line .put-line-text .ensures .1) (c .before .before .put-text .ensures))
 
 pub put-line-spec : {M : Type 1} → statement M
 put-line-spec =
     tie.close
     (tie.spec
     (λ c κs. search needs)
-    (λ c κs. search needs)
-    (λ c κs. search needs)
     (λ c. search needs)
-    (λ c κs. search needs)
-    (λ c. search needs)
-    (λ c κs. search needs)
     (λ c κs. search needs)
     (λ c. search needs)
     returns)

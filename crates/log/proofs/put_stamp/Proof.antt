@@ -18,25 +18,23 @@ put-text-requires c κs =
     let n = printed-length (replicate 16 0) (d .before .before .before .args .stamp) (d .print-date .ensures .1) refl in
     (omega arith, omega (arith, n))
 
-put-text-requires-2 : tie.Need-put-text-requires-2
-put-text-requires-2 c κs =
-    let d = c .before .before .before .before .before .before .before .before .before in
-    let n = printed-length (replicate 16 0) (d .before .before .before .args .stamp) (d .print-date .ensures .1) refl in
-    (omega (arith, n), omega arith)
-
 returns : tie.Need-returns
 returns c =
-    let end = c .before .before in
-    let date = end .before .before .before .before .before in
-    let if = date .before .before .before in
+    let if = c .before .before .before .before .before in
     let d = if .before .before in
-    let n = printed-length (replicate 16 0) (d .before .before .before .args .stamp) (d .print-date .ensures .1) refl in
-    (omega (arith, n), stamp-there _ _ _ _ (rw (if .before .is-time .ensures)) _ _ _ _ _ (if .if1 .taken) (if .before .before .print-date .ensures .1) (date .put-text .ensures) (end .put-text2 .ensures))
+    let n = printed-length (replicate 16 0) (d .before .before .before .args .stamp) (d .print-date .ensures .1) refl in (
+      omega (arith, n),
+      stamp-there _ _ _ _ (rw (if .before .is-time .ensures)) _ _ _ (if .if1 .taken) (d .print-date .ensures .1)
+          (c .before .before .put-text .ensures),
+    )
 
 returns-2 : tie.Need-returns-2
 returns-2 c =
-    let if = c .before .before .before .before .before in
-    (omega arith, stamp-missing _ _ _ _ (rw (if .before .is-time .ensures)) _ _ (if .if1 .left) (c .before .before .put-text3 .ensures))
+    let if = c .before .before .before .before .before in (
+      omega arith,
+      stamp-missing _ _ _ _ (rw (if .before .is-time .ensures)) _ _ (if .if1 .left)
+          (c .before .before .put-text2 .ensures),
+    )
 
 pub put-stamp-spec : {M : Type 1} → statement M
 put-stamp-spec =
@@ -46,8 +44,6 @@ put-stamp-spec =
     (λ c κs. search needs)
     slice-aggregate-put-text
     put-text-requires
-    (λ c. search needs)
-    put-text-requires-2
     (λ c. search needs)
     (λ c κs. search needs)
     (λ c. search needs)

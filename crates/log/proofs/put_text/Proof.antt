@@ -22,8 +22,12 @@ loop-holds c = (omega arith, omega arith, refl)
 loop-again : tie.Need-loop-again Inv-loop μ-loop
 loop-again c =
     let call = c .before .before in
-    let here = call .before .before .before .before in
-    (omega arith, omega arith, copied _ _ _ (here .before .before .before .args .word .now) _ (here .loop .j) _ (omega arith) (here .loop .inv .2) refl (call .put-u8 .ensures))
+    let here = call .before .before .before .before in (
+      omega arith,
+      omega arith,
+      copied _ _ _ (here .before .before .before .args .word .now) _ (here .loop .j) _ (omega arith)
+          (here .loop .inv .2) refl (call .put-u8 .ensures),
+    )
 
 returns : tie.Need-returns Inv-loop μ-loop
 returns c =

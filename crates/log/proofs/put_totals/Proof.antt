@@ -10,8 +10,11 @@ returns c =
     let refused = end .before .before .before .before .before in
     let warned = refused .before .before .before .before in
     let clean = warned .before .before .before .before in
-    let word = clean .before .before .before .before in
-    (omega arith, totals-put _ _ _ _ _ _ _ _ _ _ _ _ (word .put-text .ensures) (clean .put-number .ensures .1) (warned .put-number2 .ensures .1) (refused .put-decimal .ensures .1) (end .put-text2 .ensures))
+    let word = clean .before .before .before .before in (
+      omega arith,
+      totals-put _ _ _ _ _ _ _ _ _ _ _ _ (word .put-text .ensures) (clean .put-number .ensures .1)
+          (warned .put-number2 .ensures .1) (refused .put-decimal .ensures .1) (end .put-text2 .ensures),
+    )
 
 pub put-totals-spec : {M : Type 1} → statement M
 put-totals-spec =

@@ -24,13 +24,17 @@ returns c =
     let h = c .before .before .before .before .before .line-head .result in
     let sizes = stated-sizes [] (h .«part_count») (h .«text_length») (c .before .before .if1 .taken) in
     let if = c .before .before in
-    let head = if .before .before .before .line-head .ensures in
-    (stated _ _ _ (ap (λ (h : LineHead). h .«part_count») head) (ap (λ (h : LineHead). h .«text_length») head) (if .if1 .taken), (omega arith, omega (arith, sizes .0, sizes .1)))
+    let head = if .before .before .before .line-head .ensures in (
+      stated _ _ _ (ap (λ (h : LineHead). h .«part_count») head) (ap (λ (h : LineHead). h .«text_length») head) (if .if1 .taken),
+      (omega arith, omega (arith, sizes .0, sizes .1)),
+    )
 
 returns-2 : tie.Need-returns-2
 returns-2 c =
-    let head = c .before .before .before .line-head .ensures in
-    (not-stated _ _ _ (ap (λ (h : LineHead). h .«part_count») head) (ap (λ (h : LineHead). h .«text_length») head) (c .if1 .left), (omega arith, omega arith))
+    let head = c .before .before .before .line-head .ensures in (
+      not-stated _ _ _ (ap (λ (h : LineHead). h .«part_count») head) (ap (λ (h : LineHead). h .«text_length») head) (c .if1 .left),
+      (omega arith, omega arith),
+    )
 
 pub stated-length-spec : {M : Type 1} → statement M
 stated-length-spec =

@@ -12,6 +12,8 @@ log-input-spec =
     (λ c κs. search needs)
     (λ c. search needs)
     (λ c. search needs)
+    (λ c. search needs)
+    (λ c. search needs)
     (λ c. sym (length-take-le _ _ (omega arith)))
     (λ c. search needs)
     (λ c. sym (length-take-le _ _ (omega arith)))

@@ -11,4 +11,7 @@ print-spec =
     (tie.spec
     (λ c. sym (length-take-le _ _ (omega arith)))
     (λ c κs. search needs)
+    (λ c. search needs)
+    (λ c. search needs)
+    (λ c κs. search needs)
     (λ c. search needs))

@@ -21,8 +21,11 @@ struct Side {
     after: Vec<u8>,
 }
 
-/// A report answered by both sides: the answer and the register afterwards.
+const STANDING_REMARK: &[u8] = b"no remark";
+
+/// A report answered by both sides: the answer and the register afterwards. Its remark is the same stretch.
 pub fn answer(before: &[u8], report: &[u8]) -> Result<(Answer, Vec<u8>), Box<Difference>> {
+    remark(report)?;
     let reference = side(before, |register| {
         let answer = reference::answer(register, report);
         (answer.number.into(), answer.warnings.into())
@@ -40,6 +43,28 @@ pub fn set_up(roster: &[u8], before: &[u8]) -> Result<(Answer, Vec<u8>), Box<Dif
         (desk_comparison::set_up(roster, register), 0)
     });
     agreed("set-up", roster, before, reference, desk)
+}
+
+fn remark(report: &[u8]) -> Result<(Answer, Vec<u8>), Box<Difference>> {
+    let (number, stretch) = reference::remark(report, STANDING_REMARK);
+    let reference = stretch_side(number.into(), stretch);
+    let (number, stretch) = desk_comparison::remark(report, STANDING_REMARK);
+    agreed(
+        "remark",
+        report,
+        &[],
+        reference,
+        stretch_side(number, stretch),
+    )
+}
+
+/// A stretch by its place in memory and its length.
+fn stretch_side(number: u32, stretch: &[u8]) -> Side {
+    let place = [stretch.as_ptr() as usize, stretch.len()];
+    Side {
+        answer: (number, 0),
+        after: place.iter().flat_map(|n| n.to_le_bytes()).collect(),
+    }
 }
 
 fn side(before: &[u8], call: impl Fn(&mut [u8]) -> Answer) -> Side {
