@@ -89,7 +89,7 @@ uint32_t desk_set_up(const uint8_t *roster, size_t roster_length, uint8_t *reg, 
 /*
  * Judges a report and, where it is accepted, moves its unit's block on. No other block changes.
  * Returns number + 256 * warnings: the number is 0 to 19, the warnings 0 to 15; see desk_number and desk_warnings.
- * Question 1 asks the whole register each time, so that a damaged one is answered with 1 and never written to.
+ * Question 1 asks the whole register each time: one that is not whole is answered with 1 and never written to.
  */
 uint32_t desk_answer(uint8_t *reg, size_t reg_length, const uint8_t *report, size_t report_length);
 

@@ -207,6 +207,7 @@ int main(void)
         }
     }
     answer(reg, "an empty report, NULL and 0", NULL, 0, DESK_REFUSED_REPORT, 0);
+    expect("an empty register, NULL and 0", desk_answer(NULL, 0, reports[0].bytes, reports[0].length), DESK_REFUSED_REGISTER);
 
     told = head_of(1, POSITIVE_DERATING, PLANNED, 0, 6, 30, 120, 180);
     add_part(&told, 20000);
