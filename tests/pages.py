@@ -63,6 +63,30 @@ def claims_are_there():
         told(f"README.md: no function {name}", re.search(rf"^pub (extern \"C\" )?fn {name}\b", code, re.MULTILINE))
 
 
+def cited_by(path):
+    """The definitions that a file brings in: crate and file, or the line itself where it is no file of specs/."""
+    for line in re.findall(r"^(?:ghost )?use (Rattle·[^{;]*)", text_of(path), re.MULTILINE):
+        found = re.fullmatch(r"Rattle·(\w+)(?:·specs)?\.specs\.(declared|\w+)\..*", line)
+        yield found.groups() if found else (line, "")
+
+
+def beliefs_are_named():
+    """What the crates of the claims rest on, at any remove, lies in the folders that README names."""
+    readme = text_of("README.md")
+    claims = readme.split("| claim | function |")[1].split("\n\n")[0]
+    named = set(re.findall(r"`crates/(\w+)/specs`", readme.split("## What a reader must believe")[1]))
+    todo = [pair for crate in {"rules"} | set(re.findall(r"crates/(\w+)/src", claims))
+            for pair in cited_by(f"crates/{crate}/src/lib.rt")]
+    seen = set()
+    while todo:
+        crate, name = todo.pop()
+        told(f"README.md: the claims rest on {crate} {name} too", crate in named)
+        if (crate, name) not in seen and crate in named and name != "declared":
+            todo += cited_by(f"crates/{crate}/specs/{name}.antt")
+        seen.add((crate, name))
+    told("README.md: the claims do not rest on all that it names", {crate for crate, _ in seen} == named)
+
+
 def paths_are_there():
     for page in PAGES:
         for path in re.findall(r"`((?:crates|docs|examples|include|reference|samples|tests)/[^` ]*)`", text_of(page)):
@@ -72,6 +96,7 @@ def paths_are_there():
 dumps_are_the_samples()
 readings_resolve()
 claims_are_there()
+beliefs_are_named()
 paths_are_there()
 for fault in faults:
     print(fault)
