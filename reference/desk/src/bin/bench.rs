@@ -215,6 +215,13 @@ fn checked_rates(name: &str, load: &Load, expected: Option<u32>) -> Option<[f64;
     Some(load.rates())
 }
 
+fn print_head(what: &str) {
+    println!(
+        "{what:<44} {:>12} {:>12} {:>12}",
+        "Rattle", "Rust", "Rattle/Rust"
+    );
+}
+
 /// Prints the rates of both sides; Rattle's.
 fn print_rates(name: &str, load: &Load, expected: Option<u32>) -> Option<f64> {
     let [rattle, rust] = checked_rates(name, load, expected)?;
@@ -282,13 +289,10 @@ fn print_growth() -> Option<()> {
 /// The forced work of (c) on one unit, so that question 1 does not hide the sweep, with more and
 /// more parts in every record.
 fn print_growth_by_parts() -> Option<()> {
-    println!(
-        "{:<44} {:>12} {:>12} {:>12}",
-        "µs a report", "Rattle", "Rust", "Rattle/Rust"
-    );
+    print_head("µs a report");
     let mut before: Option<[f64; 2]> = None;
     for parts in [1, 10, MOST_PARTS] {
-        let name = format!("(e) 1 unit, forced work, parts of a record: {parts}");
+        let name = format!("(e) 1 unit, forced work, parts: {parts}");
         let rates = checked_rates(&name, &must_run(1, parts), Some(0))?;
         let [rattle, rust] = rates.map(|rate| 1e6 / rate);
         println!(
@@ -308,10 +312,7 @@ fn print_growth_by_parts() -> Option<()> {
 }
 
 fn bench() -> Option<()> {
-    println!(
-        "{:<44} {:>12} {:>12} {:>12}",
-        "reports per second", "Rattle", "Rust", "Rattle/Rust"
-    );
+    print_head("reports per second");
     print_rates("(a) 2 units, ordinary stream", &stream(2), None)?;
     print_rates("(b) 64 units, slots free, event", &event(), Some(0))?;
     print_rates(
