@@ -14,6 +14,7 @@ pub mod damage;
 pub mod evening;
 pub mod fields;
 pub mod minutes;
+pub mod names;
 pub mod processor;
 pub mod quantities;
 pub mod questions;

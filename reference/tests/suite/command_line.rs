@@ -60,11 +60,11 @@ fn lines_of_a_register_and_of_a_stream() {
     let stream = output(&["show"], &sample("roster-a-log").unwrap());
     let stream = String::from_utf8(stream).unwrap();
     assert!(
-        stream.starts_with("entry 1: owner 7, W1, state P,"),
+        stream.starts_with("entry 1: owner 7, W1, state P work, since 2026-03-01 00:00,"),
         "{stream}"
     );
     assert!(
-        stream.contains("report 4: unit 1, owner 7, create stop,"),
+        stream.contains("report 4: unit 1, owner 7, create stop RA, generation, executed,"),
         "{stream}"
     );
     let register = output(&["show"], &sample("register-a-after").unwrap());
@@ -74,7 +74,7 @@ fn lines_of_a_register_and_of_a_stream() {
         "{register}"
     );
     assert!(
-        register.contains("  slot 3: stop, generation,"),
+        register.contains("  slot 3: stop RA, generation, executed,"),
         "{register}"
     );
 }
