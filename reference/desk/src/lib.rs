@@ -15,6 +15,14 @@ extern "C" {
         report: *const u8,
         report_len: usize,
     ) -> u32;
+    fn desk_remark(
+        report: *const u8,
+        report_len: usize,
+        standing: *const u8,
+        standing_len: usize,
+        place: *mut u64,
+        length: *mut u64,
+    ) -> u32;
 }
 
 /// Set-up: 0, 20 or 21.
@@ -42,4 +50,39 @@ pub fn answer(register: &mut [u8], report: &[u8]) -> (u32, u32) {
         )
     };
     (packed % 256, packed / 256)
+}
+
+/// A remark as the desk hands it back.
+#[derive(Clone, Copy, Debug, PartialEq, Eq)]
+pub struct Remark {
+    /// 0, or 2 if the report is not whole.
+    pub number: u32,
+    /// 1 where the remark is the standing text, 0 where it lies in the report.
+    pub source: u32,
+    /// Where it begins in the standing text or in the report.
+    pub place: u64,
+    /// How long it is.
+    pub length: u64,
+}
+
+/// The remark beside the answer to a report.
+pub fn remark(report: &[u8], standing: &[u8]) -> Remark {
+    let (mut place, mut length) = (u64::MAX, u64::MAX);
+    // SAFETY: as for set-up; place and length are two u64 of this function's own.
+    let packed = unsafe {
+        desk_remark(
+            report.as_ptr(),
+            report.len(),
+            standing.as_ptr(),
+            standing.len(),
+            &mut place,
+            &mut length,
+        )
+    };
+    Remark {
+        number: packed % 256,
+        source: packed / 256,
+        place,
+        length,
+    }
 }
