@@ -7,6 +7,7 @@ use crate::register::{
     head as block_head, question_1_register_whole, slot, BLOCK_MARK, BLOCK_SIZE, HEAD_LAYOUT,
     HEAD_SIZE, SLOT_SIZE,
 };
+use crate::remark::printed;
 use crate::report::{head, question_2_report_whole, stated_length, WholeReport, REPORT_MARK};
 use crate::roster::{read_entry, ENTRY_LAYOUT, ENTRY_MARK, ENTRY_SIZE};
 use crate::unit::UnitLayout;
@@ -158,7 +159,7 @@ fn put_report(text: &mut String, number: u64, report: &WholeReport) {
         );
     }
     if !report.text().is_empty() {
-        let _ = writeln!(text, "    text: {}", report.text().escape_ascii());
+        let _ = writeln!(text, "    text: {}", printed(report.text()));
     }
 }
 

@@ -1,8 +1,8 @@
 //! The command line.
 
 use reference::sample::{sample, samples};
-use reference::shift_log;
 use reference::worked_examples::ROSTER_A_LOG;
+use reference::{remarks, shift_log};
 use std::io::Write;
 use std::process::{Command, Output, Stdio};
 
@@ -30,6 +30,12 @@ fn output(arguments: &[&str], input: &[u8]) -> Vec<u8> {
 fn the_log_of_roster_a() {
     let stream = output(&["sample", "roster-a-log"], &[]);
     assert_eq!(output(&["log"], &stream), ROSTER_A_LOG.as_bytes());
+}
+
+#[test]
+fn the_remarks_of_the_texts() {
+    let stream = output(&["sample", "texts"], &[]);
+    assert_eq!(output(&["remarks"], &stream), remarks(&stream));
 }
 
 #[test]
@@ -85,6 +91,7 @@ fn bad_arguments_get_one_line_and_a_failure() {
         &[][..],
         &["nonsense"],
         &["log", "more"],
+        &["remarks", "more"],
         &["sample"],
         &["sample", "no such name"],
         &["sample", "roster-a", "more"],
