@@ -163,7 +163,7 @@ fn block_whole(block: &[u8]) -> bool {
         if bytes.starts_with(&SLOT_MARK) {
             *slot = read_slot(bytes).filter(|record| fits_unit(record, &unit, last_stamp));
         }
-        // "A free slot is 888 zeros."
+        // "A free slot is 888 zeros"; a used one that is at fault has its mark, which is none.
         if slot.is_none() && !all_zero(bytes) {
             return false;
         }
