@@ -2,7 +2,7 @@
 
 use crate::codes::{Operation, RecordType};
 use crate::questions::{lowest_free_slot, row_after, Case};
-use crate::register::{put_last_stamp, put_row, slot_bytes, write_slot, SLOT_COUNT};
+use crate::register::{put_last_stamp, put_row, slot_bytes, write_slot, Block, SLOT_COUNT};
 use crate::report::Report;
 use crate::unit::Row;
 
@@ -14,7 +14,7 @@ pub struct Outcome<'r> {
     pub row: Option<Row>,
     /// Live slots that the report makes leave.
     pub leaving: [bool; SLOT_COUNT],
-    /// Slots that are not live at the report's stamp.
+    /// Used slots that are not live at the report's stamp.
     pub dead: [bool; SLOT_COUNT],
     /// The slot created, changed or withdrawn; None for an event.
     pub slot: Option<usize>,
@@ -38,9 +38,29 @@ impl<'r> Outcome<'r> {
             report: case.report,
             row,
             leaving: case.leaving(),
-            dead: case.live.map(|record| record.is_none()),
+            dead: case.dead,
             slot,
         }
+    }
+
+    /// The block afterwards, read: the block before with what the report changes.
+    pub fn block_after<'a>(&self, before: &Block<'a>) -> Block<'a>
+    where
+        'r: 'a,
+    {
+        let mut after = *before;
+        after.last_stamp = self.report.record.stamp;
+        after.unit.row = self.row.unwrap_or(before.unit.row);
+        for slot in 0..SLOT_COUNT {
+            if self.dead[slot] || self.leaving[slot] {
+                after.slots[slot] = None;
+            }
+        }
+        if let Some(slot) = self.slot {
+            let stays = self.report.operation != Operation::Withdraw;
+            after.slots[slot] = stays.then_some(self.report.record);
+        }
+        after
     }
 
     /// "last stamp becomes the stamp; dead and closed slots become zeros; a state change sets

@@ -34,6 +34,10 @@ pub fn put_i32(bytes: &mut [u8], at: usize, value: i32) {
 
 /// "'zero' fields hold 0".
 pub fn all_zero(bytes: &[u8]) -> bool {
-    // Without an early exit, so that the compiler can take many bytes at once.
-    bytes.iter().fold(0, |any, &byte| any | byte) == 0
+    // Words, and no early exit, so that the compiler can take many bytes at once.
+    let (words, rest) = bytes.as_chunks::<8>();
+    let any = words
+        .iter()
+        .fold(0, |any, &word| any | u64::from_ne_bytes(word));
+    any == 0 && rest.iter().all(|&byte| byte == 0)
 }

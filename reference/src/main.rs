@@ -1,4 +1,4 @@
-//! The command line: `log`, `sample NAME`, `random SEED COUNT`, `show`.
+//! The command line: `log`, `remarks`, `sample NAME`, `random SEED COUNT`, `show`.
 
 use reference::random::Random;
 use reference::sample::{sample, samples};
@@ -8,8 +8,8 @@ use reference::source::{broken_report, Source};
 use std::io::{BufWriter, Read, Write};
 use std::process::ExitCode;
 
-const USAGE: &str =
-    "use: reference log | reference sample NAME | reference random SEED COUNT | reference show";
+const USAGE: &str = "use: reference log | reference remarks | reference sample NAME | \
+                     reference random SEED COUNT | reference show";
 
 fn main() -> ExitCode {
     let arguments: Vec<String> = std::env::args_os()
@@ -29,6 +29,7 @@ fn main() -> ExitCode {
 fn run(arguments: &[&str]) -> Result<(), String> {
     match arguments {
         ["log"] => write_all(&reference::shift_log(&read_all()?)),
+        ["remarks"] => write_all(&reference::remarks(&read_all()?)),
         ["sample", rest @ ..] => write_sample(rest),
         ["random", seed, count] => write_random(number("SEED", seed)?, number("COUNT", count)?),
         ["show"] => match show(&read_all()?) {

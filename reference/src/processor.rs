@@ -58,15 +58,15 @@ fn question_3_own_block<'r>(register: &'r mut [u8], report: &WholeReport) -> Opt
 
 /// Questions 4 to 19, the block afterwards and the warnings, on one block that is whole.
 pub(crate) fn answer_in_block(block: &mut [u8], report: WholeReport) -> Answer {
-    let Some(before) = Block::read(block) else {
+    let Some(before) = Block::decode(block) else {
         return Answer::refusal(1);
     };
-    // The outcome borrows the report alone, so the block is free to be written.
     let outcome = match ask(&before, report) {
         Ok(case) => Outcome::of(&case),
         Err(number) => return Answer::refusal(number),
     };
+    let warnings = warnings(&outcome, &outcome.block_after(&before));
+    // The outcome borrows the report alone, so the block is free to be written.
     outcome.write(block);
-    let carried = Block::read(block).map_or(0, |after| warnings(&outcome, &after));
-    Answer::accepted(carried)
+    Answer::accepted(warnings)
 }

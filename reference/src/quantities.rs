@@ -44,11 +44,6 @@ impl Kilowatt {
         Some(Kilowatt(count)).filter(|&power| power <= MAX_POWER)
     }
 
-    /// The power that a signed count stands for, if it is one.
-    pub fn from_signed(count: i32) -> Option<Kilowatt> {
-        u32::try_from(count).ok().and_then(Kilowatt::from_count)
-    }
-
     /// Wide enough for sums of several powers.
     pub fn wide(self) -> u64 {
         u64::from(self.0)

@@ -7,7 +7,7 @@ use crate::codes::{StartMark, END_MARK, RESERVE_SHUTDOWN};
 use crate::fields::all_zero;
 use crate::minutes::{at_every_change_point, in_every_minute, InMinute};
 use crate::quantities::{Kilowatt, Minute, Period};
-use crate::record::{covers, Record, MAX_PARTS};
+use crate::record::{Record, MAX_PARTS};
 use crate::register::{Block, SLOT_COUNT};
 use crate::report::{head, Report, WholeReport};
 use crate::unit::{PowerRange, Row, Unit};
@@ -19,9 +19,13 @@ pub struct Case<'b, 'r> {
     /// The unit's last stamp.
     pub last_stamp: Minute,
     /// "a slot is live if its end > stamp; others count as free": None is free or dead.
-    pub live: [Option<Record<'b>>; SLOT_COUNT],
+    pub live: [Option<&'b Record<'b>>; SLOT_COUNT],
+    /// Used slots that are not live.
+    pub dead: [bool; SLOT_COUNT],
     /// The report.
     pub report: Report<'r>,
+    /// The live slot with the report's identifier.
+    same_mrid: Option<usize>,
 }
 
 type Question = fn(&Case) -> bool;
@@ -46,7 +50,7 @@ const QUESTIONS: [(u8, Question); 15] = [
 ];
 
 /// Questions 4 to 19 of a report on a unit's block: the case they agree to, or the refusal.
-pub fn ask<'b, 'r>(block: &Block<'b>, report: WholeReport<'r>) -> Result<Case<'b, 'r>, u8> {
+pub fn ask<'b, 'r>(block: &'b Block<'b>, report: WholeReport<'r>) -> Result<Case<'b, 'r>, u8> {
     let report = question_4_fields_in_range(report).ok_or(4)?;
     let case = Case::new(block, report);
     for (number, question) in QUESTIONS {
@@ -59,16 +63,25 @@ pub fn ask<'b, 'r>(block: &Block<'b>, report: WholeReport<'r>) -> Result<Case<'b
 
 impl<'b, 'r> Case<'b, 'r> {
     /// The case of a report on a block.
-    pub fn new(block: &Block<'b>, report: Report<'r>) -> Case<'b, 'r> {
-        let live = block
-            .slots
-            .map(|slot| slot.filter(|record| record.period.end > report.record.stamp));
-        Case {
+    pub fn new(block: &'b Block<'b>, report: Report<'r>) -> Case<'b, 'r> {
+        let Record { stamp, mrid, .. } = report.record;
+        let mut case = Case {
             unit: block.unit,
             last_stamp: block.last_stamp,
-            live,
+            live: [None; SLOT_COUNT],
+            dead: [false; SLOT_COUNT],
             report,
+            same_mrid: None,
+        };
+        for (index, slot) in block.slots.iter().enumerate() {
+            let live = slot.as_ref().filter(|record| record.period.end > stamp);
+            case.dead[index] = slot.is_some() && live.is_none();
+            case.live[index] = live;
+            if live.is_some_and(|record| record.mrid == mrid) {
+                case.same_mrid = Some(index);
+            }
         }
+        case
     }
 
     /// "A withdrawal skips 6, 7, 9 and 15–19; an event skips 9, 11–17 and 19."
@@ -85,33 +98,24 @@ impl<'b, 'r> Case<'b, 'r> {
         self.report.record.record_type == RecordType::Event
     }
 
-    fn slot_with_mrid(&self) -> Option<usize> {
-        let mrid = self.report.record.mrid;
-        self.live
-            .iter()
-            .position(|slot| slot.is_some_and(|record| record.mrid == mrid))
-    }
-
     /// The live slot that the report changes or withdraws.
     pub fn named_slot(&self) -> Option<usize> {
         match self.report.operation {
             Operation::Create => None,
-            Operation::Update | Operation::Withdraw => self.slot_with_mrid(),
+            Operation::Update | Operation::Withdraw => self.same_mrid,
         }
     }
 
-    fn named_record(&self) -> Option<&Record<'b>> {
-        self.named_slot().and_then(|slot| self.live[slot].as_ref())
+    fn named_record(&self) -> Option<&'b Record<'b>> {
+        self.named_slot().and_then(|slot| self.live[slot])
     }
 
     /// The other live records: "a changed slot counts as the report".
-    pub fn others(&self) -> impl Iterator<Item = (usize, &Record<'b>)> {
+    pub fn others(&self) -> impl Iterator<Item = (usize, &'b Record<'b>)> {
         let named = self.named_slot();
-        self.live
-            .iter()
-            .enumerate()
-            .filter(move |(slot, _)| Some(*slot) != named)
-            .filter_map(|(slot, record)| record.as_ref().map(|record| (slot, record)))
+        let live = self.live.into_iter().enumerate();
+        live.filter(move |(slot, _)| Some(*slot) != named)
+            .filter_map(|(slot, record)| Some((slot, record?)))
     }
 
     /// "W1, for an event, or a stop or off-grid record that this report begins".
@@ -157,13 +161,21 @@ impl<'b, 'r> Case<'b, 'r> {
     }
 
     /// Forced work and deratings of the report's direction, the reported record with them.
-    fn powers_of_direction(&self) -> Vec<Record<'_>> {
-        let record = self.report.record;
+    fn powers_of_direction(&self) -> impl Iterator<Item = &Record<'_>> {
+        let record = &self.report.record;
         self.others()
-            .map(|(_, other)| *other)
+            .map(|(_, other)| other)
             .filter(|other| other.record_type.has_parts() && other.direction == record.direction)
             .chain([record])
-            .collect()
+    }
+
+    /// Whether forced work and a derating of one direction share a minute of the reported record.
+    fn levels_meet_deratings(&self) -> bool {
+        let record = &self.report.record;
+        let is_level = |record: &Record| record.record_type == RecordType::MustRun;
+        self.powers_of_direction().any(|other| {
+            is_level(other) != is_level(record) && other.period.overlaps(record.period)
+        })
     }
 
     fn range(&self) -> PowerRange {
@@ -179,12 +191,14 @@ pub fn question_4_fields_in_range(stated: WholeReport) -> Option<Report> {
     let record = stated.record()?;
     let event_fits = record.record_type != RecordType::Event
         || (operation == Operation::Create && all_zero(&record.mrid));
-    let in_range =
-        event_fits && stated.byte(head::END_MARK) == END_MARK && stated.part_times_in_range();
+    let parts = stated.part_findings(record.stamp, record.period);
+    let in_range = event_fits
+        && stated.byte(head::END_MARK) == END_MARK
+        && Minute::from_count(parts.latest).is_some();
     in_range.then_some(Report {
         operation,
         record,
-        stated,
+        parts,
     })
 }
 
@@ -234,33 +248,29 @@ pub fn question_6_times(case: &Case) -> bool {
 /// (rule 18)?" Asked of every part listed, cover not yet being known.
 pub fn question_7_quarter_hours(case: &Case) -> bool {
     let record = &case.report.record;
-    let mut part_ends = record.parts.iter().map(|part| part.end);
     case.is_event()
         || (record.period.end.on_quarter_hour()
             && (record.begun() || record.period.start.on_quarter_hour())
-            && part_ends.all(|end| end <= record.stamp || end.on_quarter_hour()))
+            && case.report.parts.on_quarter_hours)
 }
 
 /// "Types 2–4: do 1 to 100 parts, each start < end, cover the period, in time order, without gap
 /// or overlap? Other types, and withdrawals: no parts?"
 pub fn question_8_cover(case: &Case) -> bool {
     let Report {
-        operation, record, ..
+        operation,
+        record,
+        parts,
     } = &case.report;
     if !record.record_type.has_parts() || *operation == Operation::Withdraw {
         return record.parts.is_empty();
     }
-    let periods = case.report.stated.parts().map(|part| Period {
-        start: Minute(part.start),
-        end: Minute(part.end),
-    });
-    (1..=MAX_PARTS).contains(&record.parts.len()) && covers(record.period, periods)
+    (1..=MAX_PARTS).contains(&record.parts.len()) && parts.cover
 }
 
 /// "Is each part's power, left by 4, 0 to 99,999,999?"
 pub fn question_9_powers(case: &Case) -> bool {
-    let mut parts = case.report.stated.parts();
-    parts.all(|part| Kilowatt::from_signed(part.power).is_some())
+    Kilowatt::from_count(case.report.parts.highest_power).is_some()
 }
 
 /// "Is the stamp not before the unit's last stamp?"
@@ -270,12 +280,12 @@ pub fn question_10_stamp(case: &Case) -> bool {
 
 /// "Create: is the identifier in no live slot?"
 pub fn question_11_mrid_unused(case: &Case) -> bool {
-    case.report.operation != Operation::Create || case.slot_with_mrid().is_none()
+    case.report.operation != Operation::Create || case.same_mrid.is_none()
 }
 
 /// "Change, withdraw: is it in one?"
 pub fn question_12_mrid_known(case: &Case) -> bool {
-    case.report.operation == Operation::Create || case.slot_with_mrid().is_some()
+    case.report.operation == Operation::Create || case.same_mrid.is_some()
 }
 
 /// "Are type, direction and qualification those of that slot, and the ordinal greater?"
@@ -316,8 +326,7 @@ pub fn question_16_derating_limit(case: &Case) -> bool {
         RecordType::NegativeDerating => case.range().span(),
         _ => return true,
     };
-    let mut parts = case.report.record.parts.iter();
-    parts.all(|part| part.power <= limit)
+    Kilowatt(case.report.parts.highest_power) <= limit
 }
 
 /// Rule 20 in one minute "that forced work and deratings of one direction share". Nothing is
@@ -350,7 +359,8 @@ fn rule_20(kind: UnitKind, range: PowerRange, minute: &InMinute) -> bool {
 pub fn question_17_level_limits(case: &Case) -> bool {
     let record = &case.report.record;
     !record.record_type.has_parts()
-        || at_every_change_point(&case.powers_of_direction(), record.period, |minute| {
+        || !case.levels_meet_deratings()
+        || at_every_change_point(case.powers_of_direction(), record.period, |minute| {
             rule_20(case.unit.kind, case.range(), minute)
         })
 }
@@ -359,7 +369,7 @@ pub fn question_17_level_limits(case: &Case) -> bool {
 pub fn question_17_each_minute(case: &Case) -> bool {
     let record = &case.report.record;
     !record.record_type.has_parts()
-        || in_every_minute(&case.powers_of_direction(), record.period, |minute| {
+        || in_every_minute(case.powers_of_direction(), record.period, |minute| {
             rule_20(case.unit.kind, case.range(), minute)
         })
 }

@@ -1,8 +1,10 @@
 //! A record: what a slot holds and what a report of types 1 to 5 carries.
 
 use crate::codes::{Direction, RecordType, StartMark};
-use crate::fields::u32_at;
+use crate::fields::{put_u32, u32_at};
 use crate::quantities::{Kilowatt, Minute, Period};
+use crate::register::slot;
+use crate::report::part;
 
 /// Bytes of an identifier.
 pub const MRID_SIZE: usize = 16;
@@ -19,22 +21,13 @@ pub struct Part {
     pub power: Kilowatt,
 }
 
-/// How parts lie in a stretch of bytes.
-#[derive(Debug)]
-pub struct PartLayout {
-    /// Bytes of a part.
-    pub size: usize,
-    /// u32.
-    pub end: usize,
-    /// u32, or i32 that is not negative.
-    pub power: usize,
-}
-
-/// The parts of a record where they lie, in a slot or in a report.
+/// The parts of a record where they lie.
 #[derive(Clone, Copy, Debug)]
-pub struct Parts<'a> {
-    bytes: &'a [u8],
-    layout: &'static PartLayout,
+pub enum Parts<'a> {
+    /// In a slot.
+    InSlot(&'a [[u8; slot::PART_SIZE]]),
+    /// In a report, where a power is an i32 that is not negative.
+    InReport(&'a [[u8; part::SIZE]]),
 }
 
 /// A record of an unavailability; parts are those of questions 8 and 9.
@@ -60,15 +53,41 @@ pub struct Record<'a> {
     pub parts: Parts<'a>,
 }
 
-impl<'a> Parts<'a> {
-    /// The parts that fill a stretch.
-    pub fn new(bytes: &'a [u8], layout: &'static PartLayout) -> Parts<'a> {
-        Parts { bytes, layout }
+impl Part {
+    /// The part of a slot's pair.
+    pub fn of_pair(pair: &[u8; slot::PART_SIZE]) -> Part {
+        Part {
+            end: Minute(u32_at(pair, slot::PART_END)),
+            power: Kilowatt(u32_at(pair, slot::PART_POWER)),
+        }
     }
+
+    /// The slot's pair of a part.
+    pub fn pair(self) -> [u8; slot::PART_SIZE] {
+        let mut pair = [0; slot::PART_SIZE];
+        put_u32(&mut pair, slot::PART_END, self.end.0);
+        put_u32(&mut pair, slot::PART_POWER, self.power.0);
+        pair
+    }
+
+    fn in_report(bytes: &[u8; part::SIZE]) -> Part {
+        Part {
+            end: Minute(u32_at(bytes, part::END)),
+            power: Kilowatt(u32_at(bytes, part::POWER)),
+        }
+    }
+}
+
+impl<'a> Parts<'a> {
+    /// No parts.
+    pub const NONE: Parts<'static> = Parts::InSlot(&[]);
 
     /// How many there are.
     pub fn len(&self) -> usize {
-        self.bytes.len() / self.layout.size
+        match self {
+            Parts::InSlot(pairs) => pairs.len(),
+            Parts::InReport(parts) => parts.len(),
+        }
     }
 
     /// Whether there are none.
@@ -78,21 +97,15 @@ impl<'a> Parts<'a> {
 
     /// The part at an index, from 0.
     pub fn get(&self, index: usize) -> Option<Part> {
-        let at = index * self.layout.size;
-        let bytes = self.bytes.get(at..at + self.layout.size)?;
-        Some(Part {
-            end: Minute(u32_at(bytes, self.layout.end)),
-            power: Kilowatt(u32_at(bytes, self.layout.power)),
-        })
+        match self {
+            Parts::InSlot(pairs) => pairs.get(index).map(Part::of_pair),
+            Parts::InReport(parts) => parts.get(index).map(Part::in_report),
+        }
     }
 
     /// The parts in order.
     pub fn iter(self) -> impl Iterator<Item = Part> + 'a {
-        let layout = self.layout;
-        self.bytes.chunks_exact(layout.size).map(|bytes| Part {
-            end: Minute(u32_at(bytes, layout.end)),
-            power: Kilowatt(u32_at(bytes, layout.power)),
-        })
+        (0..self.len()).map_while(move |index| self.get(index))
     }
 }
 
@@ -123,13 +136,42 @@ impl Record<'_> {
 }
 
 /// "Cover is judged head first: the first part fits, and the remaining parts cover what remains."
-pub fn covers(whole: Period, parts: impl Iterator<Item = Period>) -> bool {
-    let mut remains_from = whole.start;
-    for part in parts {
-        if part.start != remains_from || part.start >= part.end {
-            return false;
+#[derive(Clone, Copy, Debug)]
+pub struct Cover {
+    remains_from: Minute,
+    fits: bool,
+}
+
+impl Cover {
+    /// Nothing is covered yet.
+    pub fn of(whole: Period) -> Cover {
+        Cover {
+            remains_from: whole.start,
+            fits: true,
         }
-        remains_from = part.end;
     }
-    remains_from == whole.end
+
+    /// The next part. There is no early exit, so that the compiler can take several at once.
+    pub fn add(&mut self, part: Period) {
+        self.fits &= part.start == self.remains_from;
+        self.add_until(part.end);
+    }
+
+    /// The next part, which starts where the one before ends.
+    pub fn add_until(&mut self, end: Minute) {
+        self.fits &= self.remains_from < end;
+        self.remains_from = end;
+    }
+
+    /// Whether the parts cover the whole.
+    pub fn is_complete(self, whole: Period) -> bool {
+        self.fits && self.remains_from == whole.end
+    }
+}
+
+/// Whether parts cover a whole.
+pub fn covers(whole: Period, parts: impl Iterator<Item = Period>) -> bool {
+    let mut cover = Cover::of(whole);
+    parts.for_each(|part| cover.add(part));
+    cover.is_complete(whole)
 }

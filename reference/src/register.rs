@@ -2,9 +2,9 @@
 
 use crate::codes::{Direction, RecordType, StartMark};
 use crate::fields::{all_zero, put_u16, put_u32, u16_at, u32_at};
-use crate::quantities::{Kilowatt, Minute, Period};
+use crate::quantities::{Minute, Period, MAX_POWER};
 use crate::questions::question_5_kind_carries;
-use crate::record::{covers, PartLayout, Parts, Record, MAX_PARTS, MRID_SIZE};
+use crate::record::{Cover, Part, Parts, Record, MAX_PARTS, MRID_SIZE};
 use crate::report::REVISIONS;
 use crate::unit::{Row, Unit, UnitLayout};
 
@@ -77,14 +77,11 @@ pub mod slot {
     pub const PARTS: usize = 88;
     /// Bytes of a pair.
     pub const PART_SIZE: usize = 8;
+    /// u32 in a pair.
+    pub const PART_END: usize = 0;
+    /// u32 in a pair.
+    pub const PART_POWER: usize = 4;
 }
-
-/// A slot's pairs.
-pub const SLOT_PARTS: PartLayout = PartLayout {
-    size: slot::PART_SIZE,
-    end: 0,
-    power: 4,
-};
 
 const _: () = assert!(BLOCK_SIZE == 7_168);
 const _: () = assert!(slot::PARTS + MAX_PARTS * slot::PART_SIZE == SLOT_SIZE);
@@ -113,67 +110,107 @@ pub fn question_1_register_whole(register: &[u8]) -> bool {
         && blocks
             .iter()
             .zip(1..)
-            .all(|(block, number)| Block::read(block).is_some_and(|block| block.number == number))
+            .all(|(block, number)| u16_at(block, head::UNIT) == number && block_whole(block))
 }
 
 impl<'a> Block<'a> {
     /// The block, if question 1 finds it whole; its number may be any.
     pub fn read(bytes: &'a [u8]) -> Option<Block<'a>> {
-        if bytes.len() != BLOCK_SIZE {
-            return None;
+        if block_whole(bytes) {
+            Block::decode(bytes)
+        } else {
+            None
         }
-        let (head, slot_bytes) = bytes.split_at(HEAD_SIZE);
-        let (unit, last_stamp) = read_head(head)?;
-        let mut slots = [None; SLOT_COUNT];
-        for (slot, bytes) in slots.iter_mut().zip(slot_bytes.chunks(SLOT_SIZE)) {
-            if !all_zero(bytes) {
-                let record = read_slot(bytes)?;
-                if !fits_unit(&record, &unit, last_stamp) {
-                    return None;
-                }
-                *slot = Some(record);
-            }
-        }
-        slots_apart(&slots).then_some(Block {
+    }
+
+    /// The fields of a block that is known to be whole: its zeros and pairs are not looked at.
+    pub fn decode(bytes: &'a [u8]) -> Option<Block<'a>> {
+        let (head, slot_bytes) = split(bytes)?;
+        let (unit, last_stamp) = decode_head(head)?;
+        let mut block = Block {
             number: u16_at(head, head::UNIT),
             unit,
             last_stamp,
-            slots,
-        })
+            slots: [None; SLOT_COUNT],
+        };
+        for (slot, bytes) in block.slots.iter_mut().zip(slot_bytes) {
+            if bytes.starts_with(&SLOT_MARK) {
+                *slot = Some(decode_slot(bytes)?);
+            }
+        }
+        Some(block)
     }
 }
 
+/// The head and the slots of a block, if it is as long as one.
+fn split(block: &[u8]) -> Option<(&[u8; HEAD_SIZE], &[[u8; SLOT_SIZE]; SLOT_COUNT])> {
+    let (head, slots) = block.split_first_chunk()?;
+    let (slots, rest) = slots.as_chunks();
+    let slots = slots.try_into().ok()?;
+    rest.is_empty().then_some((head, slots))
+}
+
+/// What question 1 asks of a block, but for its number.
+fn block_whole(block: &[u8]) -> bool {
+    let Some((head, slot_bytes)) = split(block) else {
+        return false;
+    };
+    let Some((unit, last_stamp)) = read_head(head) else {
+        return false;
+    };
+    let mut slots = [None; SLOT_COUNT];
+    for (slot, bytes) in slots.iter_mut().zip(slot_bytes) {
+        if bytes.starts_with(&SLOT_MARK) {
+            *slot = read_slot(bytes).filter(|record| fits_unit(record, &unit, last_stamp));
+        }
+        // "A free slot is 888 zeros"; a used one that is at fault has its mark, which is none.
+        if slot.is_none() && !all_zero(bytes) {
+            return false;
+        }
+    }
+    slots_apart(&slots)
+}
+
 /// Layout, "head fields in the roster's ranges, since ≤ last stamp, a time".
-fn read_head(head: &[u8]) -> Option<(Unit, Minute)> {
+fn read_head(head: &[u8; HEAD_SIZE]) -> Option<(Unit, Minute)> {
     let laid_out = head.starts_with(&BLOCK_MARK)
         && all_zero(&head[head::ZERO])
         && all_zero(&head[head::TAIL_ZERO]);
-    if !laid_out {
-        return None;
-    }
+    decode_head(head).filter(|(unit, last_stamp)| laid_out && unit.row.since <= *last_stamp)
+}
+
+/// The unit and its last stamp: "head fields in the roster's ranges", "a time".
+fn decode_head(head: &[u8; HEAD_SIZE]) -> Option<(Unit, Minute)> {
     let unit = Unit::read(head, &HEAD_LAYOUT)?;
     let last_stamp = Minute::from_count(u32_at(head, head::LAST_STAMP))?;
-    (unit.row.since <= last_stamp).then_some((unit, last_stamp))
+    Some((unit, last_stamp))
 }
 
 /// The record of a used slot, if its layout and its own fields stand up to questions 4, 8 and 9
 /// and to "start < end".
-fn read_slot(bytes: &[u8]) -> Option<Record<'_>> {
-    let part_count = usize::from(u16_at(bytes, slot::PART_COUNT));
-    let parts_end = slot::PARTS + part_count * slot::PART_SIZE;
-    let laid_out = bytes.starts_with(&SLOT_MARK)
-        && part_count <= MAX_PARTS
-        && all_zero(&bytes[slot::ZERO])
-        && all_zero(&bytes[parts_end..]);
-    if !laid_out {
-        return None;
-    }
+fn read_slot(bytes: &[u8; SLOT_SIZE]) -> Option<Record<'_>> {
+    let record = decode_slot(bytes)?;
+    let fits = all_zero(&bytes[slot::ZERO])
+        && all_zero(&bytes[parts_end(bytes)..])
+        && record.period.start < record.period.end
+        && slot_parts_fit(&record);
+    fits.then_some(record)
+}
+
+/// Where the pairs of a used slot end by its k, which may be too large.
+fn parts_end(bytes: &[u8; SLOT_SIZE]) -> usize {
+    slot::PARTS + usize::from(u16_at(bytes, slot::PART_COUNT)) * slot::PART_SIZE
+}
+
+/// The record of a used slot, if each field is in its own range (question 4).
+fn decode_slot(bytes: &[u8; SLOT_SIZE]) -> Option<Record<'_>> {
     let time = |at| Minute::from_count(u32_at(bytes, at));
     let mut mrid = [0; MRID_SIZE];
     mrid.copy_from_slice(&bytes[slot::MRID..slot::MRID + MRID_SIZE]);
+    let (pairs, _) = bytes.get(slot::PARTS..parts_end(bytes))?.as_chunks();
     let record_type = RecordType::from_code(bytes[slot::TYPE])
         .filter(|&record_type| record_type != RecordType::Event)?;
-    let record = Record {
+    Some(Record {
         record_type,
         direction: Direction::from_code(bytes[slot::DIRECTION])?,
         qualification: Some(bytes[slot::QUALIFICATION])
@@ -187,29 +224,28 @@ fn read_slot(bytes: &[u8]) -> Option<Record<'_>> {
             start: time(slot::START)?,
             end: time(slot::END)?,
         },
-        parts: Parts::new(&bytes[slot::PARTS..parts_end], &SLOT_PARTS),
-    };
-    (record.period.start < record.period.end && slot_parts_fit(&record)).then_some(record)
+        parts: Parts::InSlot(pairs),
+    })
 }
 
 /// Questions 8 and 9 of a slot: pairs for types 2 to 4 only, ends rising up to the record's end.
 fn slot_parts_fit(record: &Record) -> bool {
-    if !record.record_type.has_parts() {
-        return record.parts.is_empty();
+    match record.parts {
+        Parts::InSlot(pairs) if record.record_type.has_parts() => pairs_fit(pairs, record.period),
+        parts => parts.is_empty(),
     }
-    let mut start = record.period.start;
-    let periods = record.parts.iter().map(|part| {
-        let end = part.end;
-        Period {
-            start: std::mem::replace(&mut start, end),
-            end,
-        }
-    });
-    covers(record.period, periods)
-        && record
-            .parts
-            .iter()
-            .all(|part| Kilowatt::from_count(part.power.0).is_some())
+}
+
+/// One pass, without an early exit, so that the compiler can take several pairs at once.
+fn pairs_fit(pairs: &[[u8; slot::PART_SIZE]], period: Period) -> bool {
+    let mut cover = Cover::of(period);
+    let mut powers_fit = true;
+    for pair in pairs {
+        let Part { end, power } = Part::of_pair(pair);
+        cover.add_until(end);
+        powers_fit &= power <= MAX_POWER;
+    }
+    powers_fit && cover.is_complete(period)
 }
 
 /// Question 5, "type 5 begun", "slot stamp ≤ last stamp", "begun start ≤ slot stamp".
@@ -271,11 +307,10 @@ pub fn write_slot(bytes: &mut [u8], record: &Record) {
     put_u32(bytes, slot::STAMP, record.stamp.0);
     put_u32(bytes, slot::START, record.period.start.0);
     put_u32(bytes, slot::END, record.period.end.0);
-    let pairs = bytes[slot::PARTS..].chunks_exact_mut(slot::PART_SIZE);
+    let (pairs, _) = bytes[slot::PARTS..].as_chunks_mut();
     let mut part_count = 0;
-    for (pair, part) in pairs.zip(record.parts.iter()) {
-        put_u32(pair, SLOT_PARTS.end, part.end.0);
-        put_u32(pair, SLOT_PARTS.power, part.power.0);
+    for (pair, part) in pairs.iter_mut().zip(record.parts.iter()) {
+        *pair = part.pair();
         part_count += 1;
     }
     put_u16(bytes, slot::PART_COUNT, part_count);

@@ -11,3 +11,20 @@ pub fn remark<'a>(report: &'a [u8], standing: &'a [u8]) -> (u8, &'a [u8]) {
         Some(text) => (0, text),
     }
 }
+
+/// The desk's standing remark.
+pub const STANDING: &[u8] = b"no remark";
+
+/// A remark as it is printed: 20 to 7E as they are but for the backslash, which is two; any other
+/// byte as a backslash, x and two hex digits.
+pub fn printed(remark: &[u8]) -> String {
+    let mut text = String::new();
+    for &byte in remark {
+        match byte {
+            b'\\' => text.push_str("\\\\"),
+            0x20..=0x7E => text.push(char::from(byte)),
+            _ => text.push_str(&format!("\\x{byte:02x}")),
+        }
+    }
+    text
+}

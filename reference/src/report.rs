@@ -3,7 +3,7 @@
 use crate::codes::{Direction, Operation, RecordType, StartMark};
 use crate::fields::{all_zero, i32_at, u16_at, u32_at};
 use crate::quantities::{Minute, Period};
-use crate::record::{PartLayout, Parts, Record, MAX_PARTS, MRID_SIZE};
+use crate::record::{Cover, Parts, Record, MAX_PARTS, MRID_SIZE};
 use std::ops::RangeInclusive;
 
 /// Bytes of the head.
@@ -60,6 +60,8 @@ pub mod head {
 
 /// Offsets in a part.
 pub mod part {
+    /// Bytes of a part.
+    pub const SIZE: usize = super::PART_SIZE;
     /// u16.
     pub const ZERO: usize = 2;
     /// u32.
@@ -70,17 +72,13 @@ pub mod part {
     pub const POWER: usize = 12;
 }
 
-/// A report's parts, read as those of a record.
-pub const REPORT_PARTS: PartLayout = PartLayout {
-    size: PART_SIZE,
-    end: part::END,
-    power: part::POWER,
-};
-
 /// A report that is whole; its fields may be out of range.
 #[derive(Clone, Copy, Debug)]
 pub struct WholeReport<'a> {
     bytes: &'a [u8],
+    head: &'a [u8; HEAD_SIZE],
+    parts: &'a [[u8; PART_SIZE]],
+    text: &'a [u8],
 }
 
 /// A part as the report states it.
@@ -101,8 +99,21 @@ pub struct Report<'a> {
     pub operation: Operation,
     /// The rest; an event's record has no parts and stands in no slot.
     pub record: Record<'a>,
-    /// The report it was read from.
-    pub stated: WholeReport<'a>,
+    /// What the questions ask of the parts.
+    pub parts: PartFindings,
+}
+
+/// What questions 4, 7, 8, 9 and 16 ask of a report's parts, found in one pass.
+#[derive(Clone, Copy, Debug)]
+pub struct PartFindings {
+    /// The latest start or end, a count.
+    pub latest: u32,
+    /// "every part end after the stamp" is a multiple of 15.
+    pub on_quarter_hours: bool,
+    /// The parts cover the period.
+    pub cover: bool,
+    /// The highest power, a count; a negative one counts from 2^31 up, above every power.
+    pub highest_power: u32,
 }
 
 /// "Length 50 + 16k + t", once the head is there to give k and t.
@@ -115,42 +126,36 @@ pub fn stated_length(bytes: &[u8]) -> Option<usize> {
 
 /// "Is the report whole: length, two-byte marks, zeros, k ≤ 100, t ≤ 200?"
 pub fn question_2_report_whole(bytes: &[u8]) -> Option<WholeReport<'_>> {
-    let length_fits = stated_length(bytes) == Some(bytes.len());
-    if !length_fits {
-        return None;
-    }
-    let report = WholeReport { bytes };
-    let counts_fit = report.part_count() <= MAX_PARTS && report.text_length() <= MAX_TEXT;
-    let marks_and_zeros = bytes.starts_with(&REPORT_MARK)
-        && all_zero(&bytes[head::ZERO..HEAD_SIZE])
-        && report
-            .part_bytes()
-            .chunks(PART_SIZE)
-            .all(|part| part.starts_with(&PART_MARK) && all_zero(&part[part::ZERO..part::START]))
-        && bytes[report.parts_end()..].starts_with(&TEXT_MARK);
-    (counts_fit && marks_and_zeros).then_some(report)
+    let (head, rest) = bytes.split_first_chunk::<HEAD_SIZE>()?;
+    let part_count = usize::from(u16_at(head, head::PART_COUNT));
+    let text_length = usize::from(u16_at(head, head::TEXT_LENGTH));
+    let (parts, rest) = rest.split_at_checked(part_count * PART_SIZE)?;
+    let (parts, _) = parts.as_chunks::<PART_SIZE>();
+    let text = rest.strip_prefix(&TEXT_MARK)?;
+    let counts_fit =
+        part_count <= MAX_PARTS && text_length <= MAX_TEXT && text.len() == text_length;
+    let marks_and_zeros = head.starts_with(&REPORT_MARK) && all_zero(&head[head::ZERO..]);
+    (counts_fit && marks_and_zeros && parts_marked(parts)).then_some(WholeReport {
+        bytes,
+        head,
+        parts,
+        text,
+    })
+}
+
+/// Whether each part begins with its mark and zeros; no early exit, so that the compiler can take
+/// several at once.
+fn parts_marked(parts: &[[u8; PART_SIZE]]) -> bool {
+    const BEGINNING: [u8; part::START] = [PART_MARK[0], PART_MARK[1], 0, 0];
+    parts
+        .iter()
+        .fold(true, |marked, part| marked & part.starts_with(&BEGINNING))
 }
 
 impl<'a> WholeReport<'a> {
     /// A field of one byte as it stands.
     pub fn byte(&self, at: usize) -> u8 {
-        self.bytes[at]
-    }
-
-    fn part_count(&self) -> usize {
-        usize::from(u16_at(self.bytes, head::PART_COUNT))
-    }
-
-    fn text_length(&self) -> usize {
-        usize::from(u16_at(self.bytes, head::TEXT_LENGTH))
-    }
-
-    fn parts_end(&self) -> usize {
-        HEAD_SIZE + self.part_count() * PART_SIZE
-    }
-
-    fn part_bytes(&self) -> &'a [u8] {
-        &self.bytes[HEAD_SIZE..self.parts_end()]
+        self.head[at]
     }
 
     /// All of it.
@@ -160,50 +165,60 @@ impl<'a> WholeReport<'a> {
 
     /// The unit's number as it stands.
     pub fn unit(&self) -> u16 {
-        u16_at(self.bytes, head::UNIT)
+        u16_at(self.head, head::UNIT)
     }
 
     /// The owner's number as it stands.
     pub fn owner(&self) -> u16 {
-        u16_at(self.bytes, head::OWNER)
+        u16_at(self.head, head::OWNER)
     }
 
     /// The stamp as it stands.
     pub fn stamp(&self) -> u32 {
-        u32_at(self.bytes, head::STAMP)
+        u32_at(self.head, head::STAMP)
     }
 
     /// The text.
     pub fn text(&self) -> &'a [u8] {
-        &self.bytes[self.parts_end() + TEXT_MARK.len()..]
+        self.text
     }
 
     /// The parts as they stand.
     pub fn parts(&self) -> impl Iterator<Item = StatedPart> + 'a {
-        self.part_bytes()
-            .chunks_exact(PART_SIZE)
-            .map(|bytes| StatedPart {
-                start: u32_at(bytes, part::START),
-                end: u32_at(bytes, part::END),
-                power: i32_at(bytes, part::POWER),
-            })
+        self.parts.iter().map(|bytes| StatedPart {
+            start: u32_at(bytes, part::START),
+            end: u32_at(bytes, part::END),
+            power: i32_at(bytes, part::POWER),
+        })
     }
 
     fn time(&self, at: usize) -> Option<Minute> {
-        Minute::from_count(u32_at(self.bytes, at))
+        Minute::from_count(u32_at(self.head, at))
     }
 
     fn mrid(&self) -> [u8; MRID_SIZE] {
         let mut mrid = [0; MRID_SIZE];
-        mrid.copy_from_slice(&self.bytes[head::MRID..head::MRID + MRID_SIZE]);
+        mrid.copy_from_slice(&self.head[head::MRID..head::MRID + MRID_SIZE]);
         mrid
     }
 
-    /// "times (parts' too)".
-    pub fn part_times_in_range(&self) -> bool {
-        self.parts().all(|part| {
-            Minute::from_count(part.start).is_some() && Minute::from_count(part.end).is_some()
-        })
+    /// What the questions ask of the parts of a record with this stamp and period.
+    pub fn part_findings(&self, stamp: Minute, period: Period) -> PartFindings {
+        let (mut latest, mut highest_power) = (0, 0);
+        let (mut on_quarter_hours, mut cover) = (true, Cover::of(period));
+        for part in self.parts() {
+            let (start, end) = (Minute(part.start), Minute(part.end));
+            latest = part.start.max(part.end).max(latest);
+            on_quarter_hours &= (end <= stamp) | end.on_quarter_hour();
+            cover.add(Period { start, end });
+            highest_power = part.power.cast_unsigned().max(highest_power);
+        }
+        PartFindings {
+            latest,
+            on_quarter_hours,
+            cover: cover.is_complete(period),
+            highest_power,
+        }
     }
 
     /// The record that the fields give, if each is in its own range.
@@ -215,7 +230,7 @@ impl<'a> WholeReport<'a> {
             qualification: Some(self.byte(head::QUALIFICATION))
                 .filter(|&code| record_type.allows_qualification(code))?,
             start_mark: StartMark::from_code(self.byte(head::START_MARK))?,
-            revision: Some(u16_at(self.bytes, head::REVISION))
+            revision: Some(u16_at(self.head, head::REVISION))
                 .filter(|revision| REVISIONS.contains(revision))?,
             mrid: self.mrid(),
             stamp: self.time(head::STAMP)?,
@@ -223,7 +238,7 @@ impl<'a> WholeReport<'a> {
                 start: self.time(head::START)?,
                 end: self.time(head::END)?,
             },
-            parts: Parts::new(self.part_bytes(), &REPORT_PARTS),
+            parts: Parts::InReport(self.parts),
         })
     }
 }

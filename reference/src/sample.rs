@@ -7,6 +7,8 @@ use crate::evening;
 use crate::processor::answer;
 use crate::quantities::LAST_MINUTE;
 use crate::register::BLOCK_SIZE;
+use crate::remark::STANDING;
+use crate::report::MAX_TEXT;
 use crate::roster::ENTRY_SIZE;
 use crate::setup::set_up;
 use crate::shift_log::LOG_ENTRIES;
@@ -36,6 +38,7 @@ pub fn samples() -> Vec<Sample> {
         ("report-cut-short", cut(&stream(&roster_a_reports()), 1)),
         ("stamp-out-of-range", stream(&[late_stamp()])),
         ("hundred-parts", stream(&hundred_parts())),
+        ("texts", stream(&texts())),
     ];
     let fixed = fixed.into_iter().map(|(name, bytes)| Sample {
         name: name.to_string(),
@@ -129,4 +132,26 @@ fn hundred_parts() -> Vec<Vec<u8>> {
         record(RecordType::PositiveDerating, 1, &deratings),
         record(RecordType::MustRun, 2, &levels),
     ]
+}
+
+/// Texts of every byte, of 1 and of 200, one that looks like the standing remark, and none.
+fn texts() -> Vec<Vec<u8>> {
+    let texts: [Vec<u8>; 7] = [
+        (0x00..=0x7F).collect(),
+        (0x80..=0xFF).collect(),
+        vec![b'\\'],
+        b" | feed pump B \\x0a".to_vec(),
+        STANDING.to_vec(),
+        vec![b'\n'; MAX_TEXT],
+        Vec::new(),
+    ];
+    let report = ReportFields::creation(1, 7, RecordType::PositiveDerating)
+        .over(D + 60, D + 120)
+        .at(20_000)
+        .stamped(D + 10);
+    let with_text = |text| ReportFields {
+        text,
+        ..report.clone()
+    };
+    texts.map(|text| with_text(text).bytes()).to_vec()
 }

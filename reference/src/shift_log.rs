@@ -1,9 +1,10 @@
-//! The shift log.
+//! The shift log, alone and with the remarks.
 
 use crate::calendar::date;
 use crate::processor::{answer, Answer};
 use crate::register::BLOCK_SIZE;
-use crate::report::{question_2_report_whole, stated_length};
+use crate::remark::{printed, remark, STANDING};
+use crate::report::{question_2_report_whole, stated_length, WholeReport};
 use crate::roster::{ENTRY_MARK, ENTRY_SIZE};
 use crate::setup::{set_up, ROSTER_REFUSED};
 use std::io::Write;
@@ -11,7 +12,16 @@ use std::io::Write;
 /// The most roster entries that the log program reads.
 pub const LOG_ENTRIES: usize = 8;
 
-const HEADER: &[u8] = b"no unit answer warn stamp\n";
+const HEADER: &str = "no unit answer warn stamp";
+
+/// What a line ends with.
+#[derive(Clone, Copy)]
+enum Ending {
+    /// The stamp.
+    Stamp,
+    /// The stamp, a bar and the remark.
+    Remark,
+}
 
 /// The input and the place reached in it.
 struct Reader<'a> {
@@ -67,6 +77,15 @@ impl Totals {
 
 /// The log of an input: roster entries, then reports.
 pub fn shift_log(input: &[u8]) -> Vec<u8> {
+    log(input, Ending::Stamp)
+}
+
+/// The log with each report's remark at the end of its line.
+pub fn remarks(input: &[u8]) -> Vec<u8> {
+    log(input, Ending::Remark)
+}
+
+fn log(input: &[u8], ending: Ending) -> Vec<u8> {
     let mut reader = Reader { input };
     let mut log = Vec::new();
     let Some(roster) = reader.roster() else {
@@ -75,7 +94,7 @@ pub fn shift_log(input: &[u8]) -> Vec<u8> {
     };
     let mut register = vec![0; roster.len() / ENTRY_SIZE * BLOCK_SIZE];
     match set_up(roster, &mut register) {
-        0 => put_reports(&mut log, &mut reader, &mut register),
+        0 => put_reports(&mut log, &mut reader, &mut register, ending),
         fault => put_roster_fault(&mut log, fault),
     }
     log
@@ -88,25 +107,23 @@ fn put_roster_fault(log: &mut Vec<u8>, number: u8) {
 
 /// The header, a line to each report, the totals. "A report that fails question 2, or an input
 /// cut short, gets a line with 2 and ends the run; the totals follow."
-fn put_reports(log: &mut Vec<u8>, reader: &mut Reader, register: &mut [u8]) {
-    log.extend_from_slice(HEADER);
+fn put_reports(log: &mut Vec<u8>, reader: &mut Reader, register: &mut [u8], ending: Ending) {
+    put(log, format_args!("{HEADER}"));
+    end_line(log, ending, "remark");
     let mut totals = Totals::default();
     let mut line = 0_u64;
     while !reader.input.is_empty() {
         line += 1;
         let Some(whole) = reader.report().and_then(question_2_report_whole) else {
-            put(log, format_args!("{line} - 2 0 -\n"));
+            put(log, format_args!("{line} - 2 0 -"));
+            end_line(log, ending, "");
             totals.count(Answer::refusal(2));
             break;
         };
         let answer = answer(register, whole.bytes());
-        let (unit, Answer { number, warnings }) = (whole.unit(), answer);
-        put(log, format_args!("{line} {unit} {number} {warnings} "));
-        match date(whole.stamp()) {
-            Ok(text) => log.extend_from_slice(&text),
-            Err(_) => log.push(b'-'),
-        }
-        log.push(b'\n');
+        put_answer(log, line, &whole, answer);
+        let (_, remark) = remark(whole.bytes(), STANDING);
+        end_line(log, ending, &printed(remark));
         totals.count(answer);
     }
     let Totals {
@@ -115,6 +132,23 @@ fn put_reports(log: &mut Vec<u8>, reader: &mut Reader, register: &mut [u8]) {
         refused,
     } = totals;
     put(log, format_args!("total {clean} {warned} {refused}\n"));
+}
+
+/// A line up to its stamp.
+fn put_answer(log: &mut Vec<u8>, line: u64, report: &WholeReport, answer: Answer) {
+    let (unit, Answer { number, warnings }) = (report.unit(), answer);
+    put(log, format_args!("{line} {unit} {number} {warnings} "));
+    match date(report.stamp()) {
+        Ok(text) => log.extend_from_slice(&text),
+        Err(_) => log.push(b'-'),
+    }
+}
+
+fn end_line(log: &mut Vec<u8>, ending: Ending, remark: &str) {
+    match ending {
+        Ending::Stamp => log.push(b'\n'),
+        Ending::Remark => put(log, format_args!(" | {remark}\n")),
+    }
 }
 
 fn put(log: &mut Vec<u8>, text: std::fmt::Arguments) {

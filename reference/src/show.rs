@@ -1,12 +1,13 @@
 //! Registers and streams in readable lines.
 
 use crate::calendar::date;
-use crate::codes::{Direction, Operation, RecordType, StartMark, UnitKind, UnitState};
 use crate::fields::{all_zero, u16_at, u32_at};
+use crate::names;
 use crate::register::{
     head as block_head, question_1_register_whole, slot, BLOCK_MARK, BLOCK_SIZE, HEAD_LAYOUT,
     HEAD_SIZE, SLOT_SIZE,
 };
+use crate::remark::printed;
 use crate::report::{head, question_2_report_whole, stated_length, WholeReport, REPORT_MARK};
 use crate::roster::{read_entry, ENTRY_LAYOUT, ENTRY_MARK, ENTRY_SIZE};
 use crate::unit::UnitLayout;
@@ -60,11 +61,14 @@ fn put_rest(text: &mut String, rest: usize) {
 fn unit_data(bytes: &[u8], layout: &UnitLayout) -> String {
     let power = |index: usize| u32_at(bytes, layout.powers + 4 * index);
     format!(
-        "owner {}, {}, state {}, qualification {}, since {}, generation {}/{} kW, consumption {}/{} kW",
+        "owner {}, {}, {}, since {}, generation {}/{} kW, consumption {}/{} kW",
         u16_at(bytes, layout.owner),
-        kind(bytes[layout.kind]),
-        state(bytes[layout.state]),
-        bytes[layout.qualification],
+        names::kind(bytes[layout.kind]),
+        names::row(
+            bytes[layout.kind],
+            bytes[layout.state],
+            bytes[layout.qualification]
+        ),
         time(u32_at(bytes, layout.since)),
         power(0),
         power(1),
@@ -75,11 +79,10 @@ fn unit_data(bytes: &[u8], layout: &UnitLayout) -> String {
 
 fn slot_data(bytes: &[u8]) -> String {
     format!(
-        "{}, {}, qualification {}, {}, ordinal {}, id {}, stamp {}, {} to {}",
-        record_type(bytes[slot::TYPE]),
-        direction(bytes[slot::DIRECTION]),
-        bytes[slot::QUALIFICATION],
-        start_mark(bytes[slot::START_MARK]),
+        "{}, {}, {}, ordinal {}, id {}, stamp {}, {} to {}",
+        names::record(bytes[slot::TYPE], bytes[slot::QUALIFICATION]),
+        names::direction(bytes[slot::DIRECTION]),
+        names::start_mark(bytes[slot::START_MARK]),
         u16_at(bytes, slot::REVISION),
         hex(&bytes[slot::MRID..slot::STAMP]),
         time(u32_at(bytes, slot::STAMP)),
@@ -133,15 +136,14 @@ fn put_report(text: &mut String, number: u64, report: &WholeReport) {
     let bytes = report.bytes();
     let _ = writeln!(
         text,
-        "report {number}: unit {}, owner {}, {} {}, {}, qualification {}, {}, end mark {}, ordinal {}, id {}, stamp {}, {} to {}",
+        "report {number}: unit {}, owner {}, {} {}, {}, {}, {}, ordinal {}, id {}, stamp {}, {} to {}",
         report.unit(),
         report.owner(),
-        operation(bytes[head::OPERATION]),
-        record_type(bytes[head::TYPE]),
-        direction(bytes[head::DIRECTION]),
-        bytes[head::QUALIFICATION],
-        start_mark(bytes[head::START_MARK]),
-        bytes[head::END_MARK],
+        names::operation(bytes[head::OPERATION]),
+        names::record(bytes[head::TYPE], bytes[head::QUALIFICATION]),
+        names::direction(bytes[head::DIRECTION]),
+        names::start_mark(bytes[head::START_MARK]),
+        names::end_mark(bytes[head::END_MARK]),
         u16_at(bytes, head::REVISION),
         hex(&bytes[head::MRID..head::STAMP]),
         time(report.stamp()),
@@ -157,7 +159,7 @@ fn put_report(text: &mut String, number: u64, report: &WholeReport) {
         );
     }
     if !report.text().is_empty() {
-        let _ = writeln!(text, "    text: {}", report.text().escape_ascii());
+        let _ = writeln!(text, "    text: {}", printed(report.text()));
     }
 }
 
@@ -170,63 +172,4 @@ fn time(minute: u32) -> String {
         Ok(text) => String::from_utf8_lossy(&text).into_owned(),
         Err(_) => format!("minute {minute}"),
     }
-}
-
-/// A code's name, or the code.
-fn name<T>(code: u8, known: Option<T>, name: impl Fn(T) -> &'static str) -> String {
-    known.map_or_else(|| code.to_string(), |known| name(known).to_string())
-}
-
-fn kind(code: u8) -> String {
-    name(code, UnitKind::from_code(code), |kind| match kind {
-        UnitKind::W1 => "W1",
-        UnitKind::M1 => "M1",
-        UnitKind::Z1 => "Z1",
-        UnitKind::A => "A",
-    })
-}
-
-fn state(code: u8) -> String {
-    name(code, UnitState::from_code(code), |state| match state {
-        UnitState::ShutDown => "R",
-        UnitState::Firing => "RO",
-        UnitState::StartUp => "U1",
-        UnitState::Synchronised => "U2",
-        UnitState::InOperation => "P",
-        UnitState::OffGrid => "RP",
-    })
-}
-
-fn record_type(code: u8) -> String {
-    name(code, RecordType::from_code(code), |known| match known {
-        RecordType::Outage => "stop",
-        RecordType::PositiveDerating => "positive derating",
-        RecordType::NegativeDerating => "negative derating",
-        RecordType::MustRun => "forced work",
-        RecordType::OffGrid => "off-grid work",
-        RecordType::Event => "event",
-    })
-}
-
-fn operation(code: u8) -> String {
-    name(code, Operation::from_code(code), |known| match known {
-        Operation::Create => "create",
-        Operation::Update => "change",
-        Operation::Withdraw => "withdraw",
-    })
-}
-
-fn direction(code: u8) -> String {
-    name(code, Direction::from_code(code), |known| match known {
-        Direction::Generation => "generation",
-        Direction::Consumption => "consumption",
-        Direction::Both => "both directions",
-    })
-}
-
-fn start_mark(code: u8) -> String {
-    name(code, StartMark::from_code(code), |known| match known {
-        StartMark::Planned => "planned",
-        StartMark::Actual => "executed",
-    })
 }

@@ -118,7 +118,9 @@ impl Row {
 }
 
 impl Unit {
-    /// The unit whose fields lie there, if they are in the roster's ranges.
+    /// The unit whose fields lie there, if they are in the roster's ranges. Inlined, the offsets
+    /// are constants.
+    #[inline]
     pub fn read(bytes: &[u8], layout: &UnitLayout) -> Option<Unit> {
         let owner = Some(u16_at(bytes, layout.owner)).filter(|owner| OWNERS.contains(owner))?;
         let kind = UnitKind::from_code(bytes[layout.kind])?;

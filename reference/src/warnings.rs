@@ -55,16 +55,16 @@ fn made_leave(outcome: &Outcome) -> bool {
 
 /// Warnings 2 and 4 of a reported record; only forced work has levels.
 pub fn level_warnings(record: &Record, after: &Block) -> (bool, bool) {
-    if record.record_type != RecordType::MustRun {
-        return (false, false);
+    let (mut above, mut below) = (false, false);
+    if record.record_type == RecordType::MustRun {
+        let records = powers_of_direction(record, after);
+        at_every_change_point(records, record.period, |minute| {
+            above |= !not_above(after, record, minute);
+            below |= !not_below(after, record, minute);
+            true
+        });
     }
-    let records = powers_of_direction(record, after);
-    let breaks = |rule: Rule| {
-        !at_every_change_point(&records, record.period, |minute| {
-            rule(after, record, minute)
-        })
-    };
-    (breaks(not_above), breaks(not_below))
+    (above, below)
 }
 
 /// Warnings 2 and 4 minute by minute, for tests.
@@ -72,25 +72,22 @@ pub fn level_warnings_each_minute(record: &Record, after: &Block) -> (bool, bool
     if record.record_type != RecordType::MustRun {
         return (false, false);
     }
-    let records = powers_of_direction(record, after);
     let breaks = |rule: Rule| {
-        !in_every_minute(&records, record.period, |minute| {
-            rule(after, record, minute)
-        })
+        let records = powers_of_direction(record, after);
+        !in_every_minute(records, record.period, |minute| rule(after, record, minute))
     };
     (breaks(not_above), breaks(not_below))
 }
 
 type Rule = fn(&Block, &Record, &InMinute) -> bool;
 
-fn powers_of_direction<'a>(record: &Record, after: &Block<'a>) -> Vec<Record<'a>> {
-    after
-        .slots
-        .iter()
-        .flatten()
-        .filter(|other| other.record_type.has_parts() && other.direction == record.direction)
-        .copied()
-        .collect()
+fn powers_of_direction<'b>(
+    record: &Record,
+    after: &'b Block<'b>,
+) -> impl Iterator<Item = &'b Record<'b>> {
+    let direction = record.direction;
+    let records = after.slots.iter().flatten();
+    records.filter(move |other| other.record_type.has_parts() && other.direction == direction)
 }
 
 /// No level above the limit in this minute, or a positive derating.

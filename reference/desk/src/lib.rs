@@ -52,10 +52,23 @@ pub fn answer(register: &mut [u8], report: &[u8]) -> (u32, u32) {
     (packed % 256, packed / 256)
 }
 
-/// The remark's number, 0 or 2, and the stretch that it is of one of the two.
-pub fn remark<'a>(report: &'a [u8], standing: &'a [u8]) -> (u32, &'a [u8]) {
-    let (mut place, mut length) = (0, 0);
-    // SAFETY: as for set-up; the two numbers are locals of their own.
+/// A remark as the desk hands it back.
+#[derive(Clone, Copy, Debug, PartialEq, Eq)]
+pub struct Remark {
+    /// 0, or 2 if the report is not whole.
+    pub number: u32,
+    /// 1 where the remark is the standing text, 0 where it lies in the report.
+    pub source: u32,
+    /// Where it begins in the standing text or in the report.
+    pub place: u64,
+    /// How long it is.
+    pub length: u64,
+}
+
+/// The remark beside the answer to a report.
+pub fn remark(report: &[u8], standing: &[u8]) -> Remark {
+    let (mut place, mut length) = (u64::MAX, u64::MAX);
+    // SAFETY: as for set-up; place and length are two u64 of this function's own.
     let packed = unsafe {
         desk_remark(
             report.as_ptr(),
@@ -66,7 +79,10 @@ pub fn remark<'a>(report: &'a [u8], standing: &'a [u8]) -> (u32, &'a [u8]) {
             &mut length,
         )
     };
-    let slice = if packed / 256 == 1 { standing } else { report };
-    let start = place as usize;
-    (packed % 256, &slice[start..start + length as usize])
+    Remark {
+        number: packed % 256,
+        source: packed / 256,
+        place,
+        length,
+    }
 }

@@ -77,9 +77,18 @@ impl<'d> Draft<'d> {
             1..=6 => self.random.between(1..=20),
             _ => 0,
         };
-        (0..length)
-            .map(|_| self.random.between(0x20..=0x7E) as u8)
-            .collect()
+        (0..length).map(|_| self.text_byte()).collect()
+    }
+
+    /// One that can be printed as a rule, now and then any.
+    fn text_byte(&mut self) -> u8 {
+        const PRINTED: u64 = 0x7E - 0x20 + 1;
+        let bits = self.random.bits();
+        let any = bits >> 8;
+        match bits % 8 {
+            0 => any as u8,
+            _ => 0x20 + (any % PRINTED) as u8,
+        }
     }
 
     fn blank(&self, record_type: RecordType) -> ReportFields {

@@ -3,16 +3,19 @@
 use super::rosters::entry;
 use crate::codes::{Direction, RecordType, StartMark, UnitKind};
 use crate::fields::{put_u16, put_u32, u16_at, u32_at};
-use crate::quantities::{Minute, Period, LAST_MINUTE, MAX_POWER};
+use crate::quantities::{Kilowatt, Minute, Period, LAST_MINUTE, MAX_POWER};
 use crate::random::Random;
-use crate::record::{Parts, Record, MAX_PARTS, MRID_SIZE};
+use crate::record::{Part, Parts, Record, MAX_PARTS, MRID_SIZE};
 use crate::register::{
     head, put_last_stamp, slot, slot_bytes, write_head, write_slot, BLOCK_SIZE, HEAD_LAYOUT,
-    HEAD_SIZE, SLOT_COUNT, SLOT_PARTS, SLOT_SIZE,
+    HEAD_SIZE, SLOT_COUNT, SLOT_SIZE,
 };
 use crate::roster::read_entry;
 use crate::unit::Unit;
 use crate::worked_examples::D;
+
+/// A part as a slot has it.
+type Pair = [u8; slot::PART_SIZE];
 
 /// A whole register of at most so many units. Its records need not stand up to questions 6, 7, 16
 /// and 17, nor go with the unit's state.
@@ -33,13 +36,13 @@ fn write_block(random: &mut Random, block: &mut [u8], number: u16, unit: &Unit) 
     let late = unit.row.since.0 + random.pick(&[0, 1, 60, 700]);
     let last_stamp = Minute(late.min(LAST_MINUTE.0));
     put_last_stamp(block, last_stamp);
-    let mut kept: Vec<(Record<'static>, Vec<u8>)> = Vec::new();
+    let mut kept: Vec<(Record<'static>, Vec<Pair>)> = Vec::new();
     for index in 0..SLOT_COUNT {
         let (mut record, pairs) = free_record(random, unit, last_stamp);
         record.mrid = [index as u8; MRID_SIZE];
         let apart = kept.iter().all(|(other, _)| !record.clashes(other));
         if apart && random.percent(80) {
-            let parts = Parts::new(&pairs, &SLOT_PARTS);
+            let parts = Parts::InSlot(&pairs);
             write_slot(slot_bytes(block, index), &Record { parts, ..record });
             kept.push((record, pairs));
         }
@@ -75,7 +78,11 @@ fn free_direction(random: &mut Random, kind: UnitKind, record_type: RecordType) 
 }
 
 /// A record that question 1 lets a unit have, its parts as pairs beside it.
-fn free_record(random: &mut Random, unit: &Unit, last_stamp: Minute) -> (Record<'static>, Vec<u8>) {
+fn free_record(
+    random: &mut Random,
+    unit: &Unit,
+    last_stamp: Minute,
+) -> (Record<'static>, Vec<Pair>) {
     let record_type = free_type(random, unit.kind);
     let start_mark = match record_type {
         RecordType::OffGrid => StartMark::Actual,
@@ -95,7 +102,7 @@ fn free_record(random: &mut Random, unit: &Unit, last_stamp: Minute) -> (Record<
         mrid: [0; MRID_SIZE],
         stamp,
         period: free_period(random, start_mark, stamp),
-        parts: Parts::new(&[], &SLOT_PARTS),
+        parts: Parts::NONE,
     };
     let pairs = free_pairs(random, &record, unit);
     (record, pairs)
@@ -119,7 +126,7 @@ fn free_period(random: &mut Random, start_mark: StartMark, stamp: Minute) -> Per
     }
 }
 
-fn free_pairs(random: &mut Random, record: &Record, unit: &Unit) -> Vec<u8> {
+fn free_pairs(random: &mut Random, record: &Record, unit: &Unit) -> Vec<Pair> {
     if !record.record_type.has_parts() {
         return Vec::new();
     }
@@ -127,8 +134,7 @@ fn free_pairs(random: &mut Random, record: &Record, unit: &Unit) -> Vec<u8> {
     let most = (end.0 - start.0).min(MAX_PARTS as u32);
     let count = random.between(1..=most).min(random.pick(&[1, 2, 3, 100]));
     let range = unit.powers.of(record.direction);
-    let mut pairs = vec![0; count as usize * slot::PART_SIZE];
-    for (pair, index) in pairs.chunks_mut(slot::PART_SIZE).zip(1..) {
+    let part = |index| {
         let part_end = if index == count {
             end.0
         } else {
@@ -136,10 +142,12 @@ fn free_pairs(random: &mut Random, record: &Record, unit: &Unit) -> Vec<u8> {
         };
         let any = random.below(range.p_max.0 + 1);
         let power = random.pick(&[any, any, 0, range.p_min.0, range.p_max.0, MAX_POWER.0]);
-        put_u32(pair, SLOT_PARTS.end, part_end);
-        put_u32(pair, SLOT_PARTS.power, power);
-    }
-    pairs
+        Part {
+            end: Minute(part_end),
+            power: Kilowatt(power),
+        }
+    };
+    (1..=count).map(part).map(Part::pair).collect()
 }
 
 /// A register with one field changed a little; it may be whole even so.

@@ -1,4 +1,4 @@
 #!/bin/sh
 # The right log, and a failure.
-"$REFERENCE" log
+"$REFERENCE" "${1:-log}"
 exit 1

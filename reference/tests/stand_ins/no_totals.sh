@@ -1,3 +1,3 @@
 #!/bin/sh
 # A log without its last line.
-"$REFERENCE" log | grep -v '^total'
+"$REFERENCE" "${1:-log}" | grep -v '^total'

@@ -1,8 +1,8 @@
 //! The command line.
 
 use reference::sample::{sample, samples};
-use reference::shift_log;
 use reference::worked_examples::ROSTER_A_LOG;
+use reference::{remarks, shift_log};
 use std::io::Write;
 use std::process::{Command, Output, Stdio};
 
@@ -33,6 +33,12 @@ fn the_log_of_roster_a() {
 }
 
 #[test]
+fn the_remarks_of_the_texts() {
+    let stream = output(&["sample", "texts"], &[]);
+    assert_eq!(output(&["remarks"], &stream), remarks(&stream));
+}
+
+#[test]
 fn every_sample_comes_out_and_can_be_shown() {
     for expected in samples() {
         let bytes = output(&["sample", &expected.name], &[]);
@@ -60,11 +66,11 @@ fn lines_of_a_register_and_of_a_stream() {
     let stream = output(&["show"], &sample("roster-a-log").unwrap());
     let stream = String::from_utf8(stream).unwrap();
     assert!(
-        stream.starts_with("entry 1: owner 7, W1, state P,"),
+        stream.starts_with("entry 1: owner 7, W1, state P work, since 2026-03-01 00:00,"),
         "{stream}"
     );
     assert!(
-        stream.contains("report 4: unit 1, owner 7, create stop,"),
+        stream.contains("report 4: unit 1, owner 7, create stop RA, generation, executed,"),
         "{stream}"
     );
     let register = output(&["show"], &sample("register-a-after").unwrap());
@@ -74,7 +80,7 @@ fn lines_of_a_register_and_of_a_stream() {
         "{register}"
     );
     assert!(
-        register.contains("  slot 3: stop, generation,"),
+        register.contains("  slot 3: stop RA, generation, executed,"),
         "{register}"
     );
 }
@@ -85,6 +91,7 @@ fn bad_arguments_get_one_line_and_a_failure() {
         &[][..],
         &["nonsense"],
         &["log", "more"],
+        &["remarks", "more"],
         &["sample"],
         &["sample", "no such name"],
         &["sample", "roster-a", "more"],

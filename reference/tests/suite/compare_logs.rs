@@ -31,7 +31,7 @@ fn wrong_programs_are_told_and_the_stream_is_kept() {
         let output = compare(&stand_in(name), &folder);
         let printed = String::from_utf8(output.stdout).unwrap();
         assert_eq!(output.status.code(), Some(1), "{name}: {printed}");
-        let result = "test result: FAILED. 0 passed; 10 failed\n";
+        let result = "test result: FAILED. 0 passed; 19 failed\n";
         assert!(printed.ends_with(result), "{name}: {printed}");
         let (stream, logs) = (
             "target/log-difference-2.stream",

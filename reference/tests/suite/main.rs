@@ -12,6 +12,7 @@ mod remark;
 mod sample_files;
 mod set_up;
 mod shift_log;
+mod show;
 mod stand_alone;
 mod totality;
 mod warnings;

@@ -9,8 +9,8 @@ use reference::questions::{
     Case,
 };
 use reference::random::Random;
-use reference::record::covers;
-use reference::register::{Block, BLOCK_SIZE};
+use reference::record::{covers, Record};
+use reference::register::{write_slot, Block, BLOCK_SIZE, SLOT_SIZE};
 use reference::report::question_2_report_whole;
 use reference::source::Source;
 use reference::warnings::{level_warnings, level_warnings_each_minute};
@@ -56,10 +56,26 @@ fn compare_warnings(block: &[u8], report: &[u8], counts: &mut Counts) {
     let outcome = Outcome::of(&case);
     outcome.write(&mut after);
     let after = Block::read(&after).unwrap();
+    assert_same_block(&outcome.block_after(&before), &after);
     let record = &outcome.report.record;
     let literal = level_warnings_each_minute(record, &after);
     assert_eq!(level_warnings(record, &after), literal);
     counts.levels += u32::from(literal != (false, false));
+}
+
+/// The block afterwards is the same whether put together or read from what was written.
+fn assert_same_block(one: &Block, other: &Block) {
+    let data = |block: &Block| (block.number, block.unit, block.last_stamp);
+    assert_eq!(data(one), data(other));
+    for (one, other) in one.slots.iter().zip(&other.slots) {
+        assert_eq!(one.as_ref().map(slot), other.as_ref().map(slot));
+    }
+}
+
+fn slot(record: &Record) -> [u8; SLOT_SIZE] {
+    let mut bytes = [0; SLOT_SIZE];
+    write_slot(&mut bytes, record);
+    bytes
 }
 
 fn compare_stream(mut source: Source, reports: u32, counts: &mut Counts) {

@@ -2,9 +2,10 @@
 
 use crate::{derating, with};
 use reference::compose::ReportFields;
-use reference::sample::sample;
-use reference::shift_log;
+use reference::sample::{sample, samples};
+use reference::source::Source;
 use reference::worked_examples::{roster_a, roster_a_reports, D};
+use reference::{remarks, shift_log};
 
 const HEADER: &str = "no unit answer warn stamp\n";
 
@@ -134,4 +135,68 @@ fn totals_tell_clean_warned_and_refused_apart() {
 total 1 1 1
 ";
     assert_eq!(lines(&input), expected);
+}
+
+#[test]
+fn remarks_of_the_texts() {
+    let log = String::from_utf8(remarks(&sample("texts").unwrap())).unwrap();
+    let printed: String = (0x20..=0x7E).map(char::from).collect();
+    let hex = |bytes: std::ops::RangeInclusive<u8>| -> String {
+        bytes.map(|byte| format!("\\x{byte:02x}")).collect()
+    };
+    let low = [
+        hex(0x00..=0x1F),
+        printed.replace('\\', r"\\"),
+        hex(0x7F..=0x7F),
+    ];
+    let expected = [
+        "no unit answer warn stamp | remark".to_string(),
+        format!("1 1 0 0 2026-03-01 00:10 | {}", low.concat()),
+        format!("2 1 11 0 2026-03-01 00:10 | {}", hex(0x80..=0xFF)),
+        r"3 1 11 0 2026-03-01 00:10 | \\".to_string(),
+        r"4 1 11 0 2026-03-01 00:10 |  | feed pump B \\x0a".to_string(),
+        "5 1 11 0 2026-03-01 00:10 | no remark".to_string(),
+        format!("6 1 11 0 2026-03-01 00:10 | {}", r"\x0a".repeat(200)),
+        "7 1 11 0 2026-03-01 00:10 | no remark".to_string(),
+        "total 1 0 6".to_string(),
+    ];
+    assert_eq!(log.lines().collect::<Vec<_>>(), expected);
+    assert!(log.ends_with("total 1 0 6\n"));
+}
+
+#[test]
+fn remarks_of_refused_reports_and_rosters() {
+    let remarks_of = |input: &[u8]| String::from_utf8(remarks(input)).unwrap();
+    let header = "no unit answer warn stamp | remark\n";
+    assert_eq!(remarks_of(&[]), "roster 20\n");
+    assert_eq!(remarks_of(&sample("bad-roster").unwrap()), "roster 20\n");
+    assert_eq!(remarks_of(&roster_a()), format!("{header}total 0 0 0\n"));
+    let text =
+        |fields: &mut ReportFields| (fields.stamp, fields.text) = (u32::MAX, b"late".to_vec());
+    let late = with(derating(1), text).bytes();
+    let cut = &late[..late.len() - 1];
+    let input = [&roster_a(), &late[..], cut].concat();
+    let expected = format!("{header}1 1 4 0 - | late\n2 - 2 0 - | \ntotal 0 0 2\n");
+    assert_eq!(remarks_of(&input), expected);
+}
+
+/// Without its remarks it is the log, line by line.
+#[test]
+fn remarks_stand_beside_the_log() {
+    let mut inputs: Vec<Vec<u8>> = samples().into_iter().map(|sample| sample.bytes).collect();
+    for seed in 0..40 {
+        let mut source = Source::new(seed, 8);
+        let reports: Vec<u8> = (0..40).flat_map(|_| source.report()).collect();
+        inputs.push([source.roster(), &reports].concat());
+    }
+    for input in inputs {
+        let with_remarks = String::from_utf8(remarks(&input)).unwrap();
+        let without = with_remarks
+            .lines()
+            .map(|line| match line.split_once(" | ") {
+                Some((line, _)) => format!("{line}\n"),
+                None => format!("{line}\n"),
+            });
+        assert_eq!(without.collect::<String>(), log(&input));
+    }
 }

@@ -3,6 +3,8 @@
 use reference::codes::{Direction, Operation, RecordType, StartMark, UnitKind};
 use reference::compose::{EntryFields, ReportFields, SlotFields};
 use reference::fields::put_u16;
+use reference::quantities::QUARTER;
+use reference::record::MAX_PARTS;
 use reference::register::{head, BLOCK_SIZE, HEAD_SIZE, MAX_UNITS, SLOT_SIZE};
 use reference::roster::{read_entry, ENTRY_SIZE};
 use reference::source::Source;
@@ -13,8 +15,7 @@ use std::time::{Duration, Instant};
 
 const OWNER: u16 = 7;
 const START: u32 = D + 60;
-const PARTS: u32 = 100;
-const QUARTERS: u32 = 15 * PARTS;
+const MOST_PARTS: u32 = MAX_PARTS as u32;
 const POSITIVE_DERATINGS: u32 = 4;
 const NEGATIVE_DERATINGS: u32 = 3;
 const MUST_RUN_MRID: u8 = 8;
@@ -47,35 +48,31 @@ impl Load {
     fn rates(&self) -> [f64; 2] {
         let mut register = self.register.clone();
         let mut round = |desk: Desk| {
-            restore(&mut register, &self.register, self.reports.len());
-            for report in &self.reports {
-                black_box(desk(&mut register, black_box(report)));
-            }
+            register.copy_from_slice(&self.register);
+            timed(|| {
+                for report in &self.reports {
+                    black_box(desk(&mut register, black_box(report)));
+                }
+            })
         };
         let seconds = fastest(|side| round([RATTLE, RUST][side]));
         seconds.map(|seconds| self.reports.len() as f64 / seconds)
     }
 }
 
-/// A single report alters one block, the last; a stream may alter all.
-fn restore(register: &mut [u8], before: &[u8], reports: usize) {
-    let from = if reports == 1 {
-        before.len() - BLOCK_SIZE
-    } else {
-        0
-    };
-    register[from..].copy_from_slice(&before[from..]);
+fn timed(work: impl FnOnce()) -> Duration {
+    let begun = Instant::now();
+    work();
+    begun.elapsed()
 }
 
 /// Seconds of the fastest round of each side, in turn: other programs disturb that least.
-fn fastest<const SIDES: usize>(mut round: impl FnMut(usize)) -> [f64; SIDES] {
+fn fastest<const SIDES: usize>(mut round: impl FnMut(usize) -> Duration) -> [f64; SIDES] {
     const LEAST: Duration = Duration::from_millis(400);
     let (start, mut fastest) = (Instant::now(), [Duration::MAX; SIDES]);
     while start.elapsed() < LEAST {
         for (side, least) in fastest.iter_mut().enumerate() {
-            let begun = Instant::now();
-            round(side);
-            *least = begun.elapsed().min(*least);
+            *least = round(side).min(*least);
         }
     }
     fastest.map(|least| least.as_secs_f64())
@@ -101,16 +98,11 @@ fn fits(roster: &[u8], units: usize) -> bool {
         })
 }
 
-fn full_roster() -> Vec<u8> {
-    EntryFields::generating(OWNER, UnitKind::W1, 5, D, 200_000, 80_000)
-        .bytes()
-        .repeat(MAX_UNITS)
-}
-
-/// 64 units with all slots free.
-fn free_register() -> Vec<u8> {
-    let mut register = vec![0; MAX_UNITS * BLOCK_SIZE];
-    reference::set_up(&full_roster(), &mut register);
+/// So many units with all slots free.
+fn free_register(units: usize) -> Vec<u8> {
+    let entry = EntryFields::generating(OWNER, UnitKind::W1, 5, D, 200_000, 80_000);
+    let mut register = vec![0; units * BLOCK_SIZE];
+    reference::set_up(&entry.bytes().repeat(units), &mut register);
     register
 }
 
@@ -121,14 +113,20 @@ fn event() -> Load {
         .over(D + 10, D + 10)
         .stamped(D + 10);
     Load {
-        register: free_register(),
+        register: free_register(MAX_UNITS),
         reports: vec![event.bytes()],
     }
 }
 
-/// Planned, of a hundred equal parts that step.
-fn record(record_type: RecordType, mrid: u8, start: u32, end: u32, power: u32) -> SlotFields {
-    let length = (end - start) / PARTS;
+/// So many equal parts, the power stepping up by 10 kW: end and power of each.
+fn steps(start: u32, length: u32, parts: u32, power: u32) -> Vec<(u32, u32)> {
+    (1..=parts)
+        .map(|part| (start + length / parts * part, power + 10 * part))
+        .collect()
+}
+
+/// Planned, from START plus an offset on, of parts that step.
+fn record(record_type: RecordType, mrid: u8, offset: u32, pairs: Vec<(u32, u32)>) -> SlotFields {
     SlotFields {
         record_type: record_type as u8,
         direction: Direction::Generation as u8,
@@ -137,60 +135,64 @@ fn record(record_type: RecordType, mrid: u8, start: u32, end: u32, power: u32) -
         revision: 1,
         mrid: [mrid; 16],
         stamp: D,
-        start,
-        end,
-        pairs: (1..=PARTS)
-            .map(|part| (start + length * part, power + 10 * part))
-            .collect(),
+        start: START + offset,
+        end: pairs.last().map_or(START + offset, |&(end, _)| end),
+        pairs,
     }
 }
 
-/// Forced work over four positive deratings in a row and three negative ones.
-fn full_slots() -> Vec<SlotFields> {
-    let start = |index| START + QUARTERS * index;
-    let derating = |record_type, mrid: u32, index| {
-        record(
-            record_type,
-            mrid as u8,
-            start(index),
-            start(index + 1),
-            1_000,
-        )
+/// Forced work over four positive deratings in a row and three negative ones, of so many parts
+/// each: a quarter hour to a derating's part, an hour to a level's.
+fn full_slots(parts: u32) -> Vec<SlotFields> {
+    let length = QUARTER * parts;
+    let derating = |record_type, mrid: u32, index: u32| {
+        let pairs = steps(START + length * index, length, parts, 1_000);
+        record(record_type, mrid as u8, length * index, pairs)
     };
     let positive = (0..POSITIVE_DERATINGS)
         .map(|index| derating(RecordType::PositiveDerating, 1 + index, index));
     let negative = (0..NEGATIVE_DERATINGS)
         .map(|index| derating(RecordType::NegativeDerating, 5 + index, index));
-    let end = start(POSITIVE_DERATINGS);
-    let must_run = record(RecordType::MustRun, MUST_RUN_MRID, START, end, 150_000);
+    let levels = steps(START, length * POSITIVE_DERATINGS, parts, 150_000);
+    let must_run = record(RecordType::MustRun, MUST_RUN_MRID, 0, levels);
     positive.chain(negative).chain([must_run]).collect()
 }
 
-/// 64 units with all slots full.
-fn full_register() -> Vec<u8> {
-    let mut register = free_register();
-    let slots: Vec<u8> = full_slots().iter().flat_map(SlotFields::bytes).collect();
+/// So many units with all slots used, by records of so many parts.
+fn full_register(units: usize, parts: u32) -> Vec<u8> {
+    let mut register = free_register(units);
+    let slots = full_slots(parts);
+    let slots: Vec<u8> = slots.iter().flat_map(SlotFields::bytes).collect();
     for block in register.chunks_mut(BLOCK_SIZE) {
         block[HEAD_SIZE..HEAD_SIZE + 8 * SLOT_SIZE].copy_from_slice(&slots);
     }
     register
 }
 
-/// The slots being full, the forced work is changed, not created.
-fn must_run() -> Load {
-    let length = QUARTERS * POSITIVE_DERATINGS;
-    let steps: Vec<(u32, i32)> = (1..=PARTS)
-        .map(|part| (START + length / PARTS * part, 140_000 + 10 * part as i32))
+/// The last unit's slots being used, its forced work is not created but changed, again and again.
+fn must_run(units: usize, parts: u32) -> Load {
+    const REPORTS: u16 = 20;
+    let length = QUARTER * parts * POSITIVE_DERATINGS;
+    let levels: Vec<(u32, i32)> = steps(START, length, parts, 140_000)
+        .into_iter()
+        .map(|(end, power)| (end, power as i32))
         .collect();
-    let mut fields = ReportFields::creation(MAX_UNITS as u16, OWNER, RecordType::MustRun)
+    let mut fields = ReportFields::creation(units as u16, OWNER, RecordType::MustRun)
         .over(START, START + length)
-        .stepping(&steps)
+        .stepping(&levels)
         .stamped(D + 10)
         .named(MUST_RUN_MRID);
-    (fields.operation, fields.revision) = (Operation::Update as u8, 2);
+    fields.operation = Operation::Update as u8;
+    let change = |revision| {
+        let fields = ReportFields {
+            revision,
+            ..fields.clone()
+        };
+        fields.bytes()
+    };
     Load {
-        register: full_register(),
-        reports: vec![fields.bytes()],
+        register: full_register(units, parts),
+        reports: (2..2 + REPORTS).map(change).collect(),
     }
 }
 
@@ -203,14 +205,26 @@ fn question_1(register: Vec<u8>) -> Load {
 }
 
 /// The rates of both sides; None if the answers differ or aren't those expected.
-fn print_rates(name: &str, load: &Load, expected: Option<u32>) -> Option<f64> {
+fn checked_rates(name: &str, load: &Load, expected: Option<u32>) -> Option<[f64; 2]> {
     let answers = load.answers(RATTLE);
-    let right = expected.is_none_or(|number| answers == [(number, 0)]);
+    let right = expected.is_none_or(|number| answers.iter().all(|&given| given == (number, 0)));
     if !right || answers != load.answers(RUST) {
         println!("{name:<44} wrong answers");
         return None;
     }
-    let [rattle, rust] = load.rates();
+    Some(load.rates())
+}
+
+fn print_head(what: &str) {
+    println!(
+        "{what:<44} {:>12} {:>12} {:>12}",
+        "Rattle", "Rust", "Rattle/Rust"
+    );
+}
+
+/// Prints the rates of both sides; Rattle's.
+fn print_rates(name: &str, load: &Load, expected: Option<u32>) -> Option<f64> {
+    let [rattle, rust] = checked_rates(name, load, expected)?;
     let ratio = rattle / rust;
     println!("{name:<44} {rattle:>12.0} {rust:>12.0} {ratio:>12.2}");
     Some(rattle)
@@ -233,13 +247,13 @@ fn print_question_1(name: &str, register: Vec<u8>) -> Option<()> {
 
 /// Plain byte sums per second.
 fn byte_sum_rate(bytes: &[u8]) -> f64 {
-    let [seconds] = fastest(|_| {
-        let mut sum = 0_u64;
-        for &byte in black_box(bytes) {
-            sum += u64::from(byte);
-        }
-        black_box(sum);
-    });
+    let sum = || {
+        black_box(bytes)
+            .iter()
+            .map(|&byte| u64::from(byte))
+            .sum::<u64>()
+    };
+    let [seconds] = fastest(|_| timed(|| _ = black_box(sum())));
     1.0 / seconds
 }
 
@@ -272,21 +286,48 @@ fn print_growth() -> Option<()> {
     Some(())
 }
 
+/// The forced work of (c) on one unit, so that question 1 does not hide the sweep, with more and
+/// more parts in every record.
+fn print_growth_by_parts() -> Option<()> {
+    print_head("µs a report");
+    let mut before: Option<[f64; 2]> = None;
+    for parts in [1, 10, MOST_PARTS] {
+        let name = format!("(e) 1 unit, forced work, parts: {parts}");
+        let rates = checked_rates(&name, &must_run(1, parts), Some(0))?;
+        let [rattle, rust] = rates.map(|rate| 1e6 / rate);
+        println!(
+            "{name:<44} {rattle:>12.2} {rust:>12.2} {:>12.2}",
+            rust / rattle
+        );
+        if let Some([rattle_before, rust_before]) = before {
+            let (rattle, rust) = (rattle / rattle_before, rust / rust_before);
+            println!(
+                "{:<44} {rattle:>12.1} {rust:>12.1}",
+                "  times the row before"
+            );
+        }
+        before = Some([rattle, rust]);
+    }
+    Some(())
+}
+
 fn bench() -> Option<()> {
-    println!(
-        "{:<44} {:>12} {:>12} {:>12}",
-        "reports per second", "Rattle", "Rust", "Rattle/Rust"
-    );
+    print_head("reports per second");
     print_rates("(a) 2 units, ordinary stream", &stream(2), None)?;
     print_rates("(b) 64 units, slots free, event", &event(), Some(0))?;
     print_rates(
         "(c) 64 units, slots full, forced work",
-        &must_run(),
+        &must_run(MAX_UNITS, MOST_PARTS),
         Some(0),
     )?;
-    print_question_1("(d) question 1 alone, slots free", free_register())?;
-    print_question_1("(d) question 1 alone, slots full", full_register())?;
-    print_growth()
+    let (free, full) = (
+        free_register(MAX_UNITS),
+        full_register(MAX_UNITS, MOST_PARTS),
+    );
+    print_question_1("(d) question 1 alone, slots free", free)?;
+    print_question_1("(d) question 1 alone, slots full", full)?;
+    print_growth()?;
+    print_growth_by_parts()
 }
 
 fn main() -> ExitCode {

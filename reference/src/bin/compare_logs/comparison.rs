@@ -1,9 +1,9 @@
 //! One stream given to both sides, and a difference in readable lines.
 
-use crate::program::{HandOver, Program};
+use crate::program::{Asked, HandOver, Program};
 use crate::tally::Tally;
-use reference::shift_log;
 use reference::show::show;
+use reference::{remarks, shift_log};
 use std::fmt::Write;
 use std::path::PathBuf;
 use std::process::Output;
@@ -18,6 +18,7 @@ pub enum Fault {
 
 /// A stream for which the program did not give the reference's log.
 pub struct Difference {
+    asked: Asked,
     input: Vec<u8>,
     reference: Vec<u8>,
     program: Output,
@@ -26,6 +27,7 @@ pub struct Difference {
 /// The program beside the reference, and what was compared so far.
 pub struct Comparison {
     program: Program,
+    asked: Asked,
     tally: Tally,
     streams: u64,
     lines: u64,
@@ -36,6 +38,7 @@ impl Comparison {
     pub fn with(program: Program) -> Comparison {
         Comparison {
             program,
+            asked: Asked::Log,
             tally: Tally::default(),
             streams: 0,
             lines: 0,
@@ -43,8 +46,14 @@ impl Comparison {
     }
 
     /// Streams and lines count from 0 again.
-    pub fn start_stage(&mut self) {
+    pub fn start_stage(&mut self, asked: Asked) {
+        self.asked = asked;
         (self.streams, self.lines) = (0, 0);
+    }
+
+    /// What the program is asked for.
+    pub fn asked(&self) -> &'static str {
+        self.asked.name()
     }
 
     /// What the stage compared.
@@ -64,18 +73,25 @@ impl Comparison {
 
     /// A stream handed over in some way.
     pub fn stream_by(&mut self, hand_over: HandOver, input: &[u8]) -> Result<(), Fault> {
-        let program = self.program.run(input, hand_over);
+        let program = self.program.run(self.asked, input, hand_over);
         let program = program.map_err(Fault::CannotRun)?;
-        let reference = shift_log(input);
+        let reference = match self.asked {
+            Asked::Log => shift_log(input),
+            Asked::Remarks => remarks(input),
+        };
         if program.stdout != reference || !program.status.success() {
             return Err(Fault::Differs(Box::new(Difference {
+                asked: self.asked,
                 input: input.to_vec(),
                 reference,
                 program,
             })));
         }
         self.streams += 1;
-        self.lines += self.tally.count(input, &reference);
+        self.lines += match self.asked {
+            Asked::Log => self.tally.count(input, &reference),
+            Asked::Remarks => self.tally.count_remarks(&reference),
+        };
         Ok(())
     }
 }
@@ -84,8 +100,9 @@ impl Difference {
     /// Writes the stream and both logs to files in target/; lines that name them.
     pub fn write_out(&self, number: u64) -> String {
         let folder = PathBuf::from("target");
-        let stream = folder.join(format!("log-difference-{number}.stream"));
-        let logs = folder.join(format!("log-difference-{number}.txt"));
+        let name = self.asked.name();
+        let stream = folder.join(format!("{name}-difference-{number}.stream"));
+        let logs = folder.join(format!("{name}-difference-{number}.txt"));
         let written = std::fs::create_dir_all(&folder)
             .and_then(|()| std::fs::write(&stream, &self.input))
             .and_then(|()| std::fs::write(&logs, self.lines()));

@@ -1,4 +1,5 @@
-//! Compares the log that a program writes with the reference's, byte for byte, on many streams.
+//! Compares the log that a program writes with the reference's, byte for byte, on many streams, and
+//! then the log with the remarks.
 
 mod comparison;
 mod ending;
@@ -8,7 +9,7 @@ mod streams;
 mod tally;
 
 use comparison::{Comparison, Fault};
-use program::Program;
+use program::{Asked, Program};
 use reference::random::Random;
 use stages::{Stage, STAGES};
 use std::process::ExitCode;
@@ -44,17 +45,24 @@ fn arguments() -> Result<(Program, u64), String> {
     Ok((Program::at(path)?, seed))
 }
 
-/// How many tests failed: one to a stage, and one that every kind of ending and answer occurred.
+/// What is compared, on the same streams.
+const ASKED: [Asked; 2] = [Asked::Log, Asked::Remarks];
+
+/// How many tests failed: one to a stage, and one that every kind of ending, answer and remark
+/// occurred.
 fn run_all(program: Program, seed: u64) -> Result<usize, String> {
     println!("seed {seed}");
     let mut comparison = Comparison::with(program);
     let mut passed = 0;
-    for (stage, number) in STAGES.iter().zip(1..) {
-        let mut random = Random::new(seed ^ (number << 56));
-        passed += usize::from(run(stage, number, &mut random, &mut comparison)?);
+    for asked in ASKED {
+        for (stage, number) in STAGES.iter().zip(1..) {
+            comparison.start_stage(asked);
+            let mut random = Random::new(seed ^ (number << 56));
+            passed += usize::from(run(stage, number, &mut random, &mut comparison)?);
+        }
     }
     passed += usize::from(all_occurred(&comparison));
-    let failed = STAGES.len() + 1 - passed;
+    let failed = ASKED.len() * STAGES.len() + 1 - passed;
     let verdict = if failed == 0 { "ok" } else { "FAILED" };
     println!("test result: {verdict}. {passed} passed; {failed} failed");
     Ok(failed)
@@ -68,10 +76,9 @@ fn run(
     comparison: &mut Comparison,
 ) -> Result<bool, String> {
     let start = Instant::now();
-    comparison.start_stage();
     let outcome = (stage.run)(random, comparison);
     let seconds = start.elapsed().as_secs_f64();
-    let name = stage.name;
+    let name = format!("{}, {}", comparison.asked(), stage.name);
     match outcome {
         Ok(()) => println!("{name}: {} agree, {seconds:.1} s", comparison.counts()),
         Err(Fault::CannotRun(message)) => return Err(message),

@@ -1,6 +1,8 @@
-//! How often each kind of ending and each answer occurred.
+//! How often each kind of ending, each answer and each kind of remark occurred.
 
 use crate::ending::{ending, ENDINGS};
+use reference::remark::STANDING;
+use reference::report::MAX_TEXT;
 use std::collections::BTreeMap;
 
 /// The counts.
@@ -8,6 +10,7 @@ use std::collections::BTreeMap;
 pub struct Tally {
     endings: BTreeMap<&'static str, u64>,
     answers: BTreeMap<String, u64>,
+    remarks: BTreeMap<&'static str, u64>,
 }
 
 /// What the log can answer: question 1 is always answered "yes" there.
@@ -22,6 +25,39 @@ fn answers() -> impl Iterator<Item = String> {
 
 const LATE_STAMP: &str = "stamp out of range";
 const CLEAN_LOG: &str = "log without refusal";
+
+/// The kinds of remark, and of which a line's is.
+fn remark_kinds(line: &str, remark: &str) -> [(&'static str, bool); 8] {
+    let refused = line.ends_with(" - 2 0 -");
+    let standing = remark.as_bytes() == STANDING;
+    let length = text_length(remark);
+    [
+        ("none beside 2", refused && remark.is_empty()),
+        ("the standing one", standing),
+        (
+            "as it is",
+            !standing && length == remark.len() && length > 1,
+        ),
+        ("with a backslash", remark.contains(r"\\")),
+        ("with a line feed", remark.contains(r"\x0a")),
+        ("with a byte above 7F", remark.contains(r"\xff")),
+        ("of 1 byte", length == 1),
+        ("of 200 bytes", length == MAX_TEXT),
+    ]
+}
+
+/// Bytes of a text that is printed so: a backslash begins two characters, or four with an x.
+fn text_length(printed: &str) -> usize {
+    let mut characters = printed.chars();
+    let mut length = 0;
+    while let Some(character) = characters.next() {
+        length += 1;
+        if character == '\\' && characters.next() == Some('x') {
+            characters.nth(1);
+        }
+    }
+    length
+}
 
 impl Tally {
     /// Counts a stream and its log; the number of the log's lines.
@@ -59,6 +95,18 @@ impl Tally {
         }
     }
 
+    /// Counts the remarks at the ends of a log's lines; the number of the lines.
+    pub fn count_remarks(&mut self, log: &[u8]) -> u64 {
+        let log = String::from_utf8_lossy(log);
+        let with_remark = log.lines().skip(1);
+        for (line, remark) in with_remark.filter_map(|line| line.split_once(" | ")) {
+            for (kind, occurred) in remark_kinds(line, remark) {
+                *self.remarks.entry(kind).or_default() += u64::from(occurred);
+            }
+        }
+        log.lines().count() as u64
+    }
+
     fn occurred(&mut self, name: String) {
         *self.answers.entry(name).or_default() += 1;
     }
@@ -68,7 +116,10 @@ impl Tally {
         let of_answer = |name: &str| self.answers.get(name).copied().unwrap_or_default();
         let endings = ENDINGS.map(|name| (name.to_string(), of_ending(name)));
         let answers = answers().map(|name| (name.clone(), of_answer(&name)));
-        endings.into_iter().chain(answers).collect()
+        let remarks = self.remarks.iter();
+        let remarks = remarks.map(|(kind, &count)| (format!("remark: {kind}"), count));
+        let rows = endings.into_iter().chain(answers);
+        rows.chain(remarks).collect()
     }
 
     /// Prints the table.

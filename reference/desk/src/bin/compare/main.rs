@@ -2,6 +2,7 @@
 
 mod case;
 mod damaged;
+mod remarks;
 mod stages;
 mod tally;
 
@@ -57,10 +58,10 @@ fn write_out(number: u64, difference: &Difference) -> String {
     let folder = PathBuf::from(env!("CARGO_MANIFEST_DIR")).join("target");
     let path = folder.join(format!("difference-{number}.txt"));
     let written =
-        std::fs::create_dir_all(&folder).and_then(|()| std::fs::write(&path, difference.lines()));
+        std::fs::create_dir_all(&folder).and_then(|()| std::fs::write(&path, &difference.lines));
     match written {
         Ok(()) => path.display().to_string(),
-        Err(error) => format!("not written: {error}\n{}", difference.lines()),
+        Err(error) => format!("not written: {error}\n{}", difference.lines),
     }
 }
 

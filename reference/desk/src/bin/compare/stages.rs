@@ -2,13 +2,15 @@
 
 use crate::case::{answer, set_up, Difference};
 use crate::damaged;
+use crate::remarks::{compare, random_standing, with_random_text, with_text};
 use crate::tally::Tally;
 use reference::damage::{base, variants};
 use reference::random::Random;
 use reference::register::BLOCK_SIZE;
+use reference::report::MAX_TEXT;
 use reference::roster::ENTRY_SIZE;
 use reference::source::{broken_report, roster, Source};
-use reference::worked_examples::{bench_findings, examples, roster_a};
+use reference::worked_examples::{bench_findings, examples, roster_a, roster_a_reports};
 
 /// The number of calls compared, or the first difference.
 type Outcome = Result<u64, Box<Difference>>;
@@ -22,7 +24,7 @@ pub struct Stage {
 }
 
 /// All stages.
-pub const STAGES: [Stage; 7] = [
+pub const STAGES: [Stage; 8] = [
     Stage {
         name: "worked examples",
         run: worked_examples,
@@ -50,6 +52,10 @@ pub const STAGES: [Stage; 7] = [
     Stage {
         name: "damaged rosters",
         run: damaged_rosters,
+    },
+    Stage {
+        name: "remarks",
+        run: remarks,
     },
 ];
 
@@ -195,4 +201,40 @@ fn damaged_rosters(random: &mut Random, tally: &mut Tally) -> Outcome {
         tally.count_set_up(set_up(&roster, &before)?.0);
     }
     Ok(ROSTERS)
+}
+
+/// Every length of text, then random texts in whole and damaged reports.
+fn remarks(random: &mut Random, tally: &mut Tally) -> Outcome {
+    const STREAMS: u64 = 200;
+    const REPORTS: u64 = 50;
+    let mut calls = every_text_length(random, tally)?;
+    for index in 0..STREAMS {
+        let mut source = Source::new(random.bits(), most_units(index));
+        for _ in 0..REPORTS {
+            let mut report = with_random_text(random, &source.report());
+            if random.percent(30) {
+                report = damaged::report(random, &report);
+            }
+            let standing = random_standing(random, &report);
+            tally.count_remark(compare(&report, &standing)?);
+        }
+        calls += REPORTS;
+    }
+    Ok(calls)
+}
+
+/// t from 0 to 201, the last one being too much.
+fn every_text_length(random: &mut Random, tally: &mut Tally) -> Outcome {
+    const LENGTHS: usize = MAX_TEXT + 2;
+    let reports = roster_a_reports();
+    let mut text = [0; LENGTHS];
+    for length in 0..LENGTHS {
+        random.fill(&mut text);
+        let text = &text[..length];
+        let report = with_text(&reports[length % reports.len()], text);
+        for standing in [&[], text, b"no remark"] {
+            tally.count_remark(compare(&report, standing)?);
+        }
+    }
+    Ok(3 * LENGTHS as u64)
 }

@@ -1,6 +1,7 @@
 //! How often each answer and each warning occurred.
 
 use crate::case::Answer;
+use std::collections::BTreeMap;
 
 const WARNINGS: [u32; 4] = [1, 2, 4, 8];
 
@@ -12,6 +13,7 @@ pub struct Tally {
     accepted_set_ups: u64,
     refused_rosters: u64,
     refused_buffers: u64,
+    remarks: BTreeMap<&'static str, u64>,
 }
 
 impl Tally {
@@ -29,6 +31,13 @@ impl Tally {
             0 => self.accepted_set_ups += 1,
             20 => self.refused_rosters += 1,
             _ => self.refused_buffers += 1,
+        }
+    }
+
+    /// Counts the kinds of remark that a call was of.
+    pub fn count_remark<const KINDS: usize>(&mut self, kinds: [(&'static str, bool); KINDS]) {
+        for (kind, occurred) in kinds {
+            *self.remarks.entry(kind).or_default() += u64::from(occurred);
         }
     }
 
@@ -50,20 +59,23 @@ impl Tally {
             ("set-up 21", self.refused_buffers),
         ];
         let set_ups = set_ups.map(|(name, count)| (name.to_string(), count));
-        answers.chain(warnings).chain(set_ups).collect()
+        let remarks = self.remarks.iter();
+        let remarks = remarks.map(|(kind, &count)| (format!("remark: {kind}"), count));
+        let rows = answers.chain(warnings).chain(set_ups);
+        rows.chain(remarks).collect()
     }
 
     /// Prints the table.
     pub fn print(&self) {
         for (name, count) in self.rows() {
-            println!("  {name:<12} {count:8}");
+            println!("  {name:<40} {count:8}");
         }
         for (sum, count) in self.sums.iter().enumerate() {
             if *count > 0 {
-                println!("  {:<12} {count:8}", format!("sum {sum}"));
+                println!("  {:<40} {count:8}", format!("sum {sum}"));
             }
         }
-        println!("  {:<12} {:8}", "answers", self.answers.iter().sum::<u64>());
+        println!("  {:<40} {:8}", "answers", self.answers.iter().sum::<u64>());
     }
 
     /// What never occurred.
