@@ -1,5 +1,5 @@
 pub mod Spans
 pub mod Parts
 pub mod Counted
-pub mod Lanes
+pub mod Tracks
 pub mod Turns
