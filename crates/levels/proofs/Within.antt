@@ -2,11 +2,11 @@
 use Prim.Native.Nat.{ℕ, zero, suc, _+_, _*_, _-_, _≤_, _<_}
 use mathlib.Core.Path.{_≡_, refl, ap, sym, _∙_, subst}
 use mathlib.Core.Bool.{Bool, true, false, not, _&&_, _||_, and-false, false≢true}
-use mathlib.Core.List.{List, [], _∷_}
+use mathlib.Core.List.{List}
 use native.Mathlib.Omega.{arith}
 use lib.Dec.{leb, ltb, eqb}
 use lib.ListN.{getD}
-use borrow.Author.Tests.{not-true}
+use borrow.Author.Tests.{not-true, not-false}
 use Rattle.fields.specs.Lists.{pick, all, series}
 use Rattle.fields.proofs.Bools.{and-left, and-right, pick-elim}
 use Rattle.fields.proofs.Tests.{all-intro, Tested, tested-more, tested-all}
@@ -16,9 +16,9 @@ use Rattle.rules.specs.declared.Levels.{Levels}
 use Rattle.rules.specs.declared.PowerRange.{PowerRange}
 use Rattle.rules.specs.declared.Record.{Record}
 use Rattle.rules.specs.Codes.{forcedWork, W1, M1, Z1}
-use Rattle.rules.specs.Block.{slotAt, recordIn, storedCount, pairsFrom, partsIn}
+use Rattle.rules.specs.Block.{slotAt, recordIn, storedCount, pairsFrom}
 use Rattle.rules.specs.Questions.{recordAt}
-use Rattle.rules.specs.Minutes.{noLevel, levelIn, FullRecord, levelOf, orElse, levelAmong, recordsAmong, levelsAt, someMinute, aboveMax, belowMin, levelsSome}
+use Rattle.rules.specs.Minutes.{noLevel, levelIn, FullRecord, levelOf, levelAmong, recordsAmong, levelsAt, someMinute, aboveMax, belowMin, levelsSome}
 use Rattle.block.specs.declared.Pair.{Pair}
 use Rattle.block.specs.Slot.{pairAt}
 use Rattle.levels.specs.declared.LevelWarnings.{LevelWarnings}
@@ -150,15 +150,21 @@ module _ (kind : ℕ) (range : PowerRange) where
   unfolding pairsWithin
   pairs-tested z e t h = tested-all t h ∙ ap (λ (k : ℕ). all pair-within (series (pairAt z) 0 k)) e
 
-  module _ (b : List ℕ) (i direction : ℕ) (t : Bool) {z : List ℕ} {r : Record} (read : z ≡ slotAt b i) (fields : r ≡ recordIn z) where
-    asked : {v : Bool} → (t && isForced r direction) ≡ v → (not v || pairsWithin (slotAt b i) kind range) ≡ slotWithin b i t direction kind range
+  module _ (b : List ℕ) (i direction : ℕ) (t : Bool) where
+    pub slot-uncounted : not t ≡ true → true ≡ slotWithin b i t direction kind range
     unfolding slotWithin
-    asked e =
-        sym (ap (λ (v : Bool). not v || pairsWithin (slotAt b i) kind range) e)
-        ∙ ap (λ (r : Record). not (t && isForced r direction) || pairsWithin (slotAt b i) kind range) (fields ∙ ap recordIn read)
+    slot-uncounted n = sym (ap (λ (t : Bool). slotWithin b i t direction kind range) (not-true t n))
 
-    pub slot-judged : {ok : Bool} → (t && isForced r direction) ≡ true → ok ≡ pairsWithin z kind range → ok ≡ slotWithin b i t direction kind range
-    slot-judged e p = p ∙ ap (λ (z : List ℕ). pairsWithin z kind range) read ∙ asked e
+    module _ {z : List ℕ} {r : Record} (counts : not t ≡ false) (read : z ≡ slotAt b i) (fields : r ≡ recordIn z) where
+      asked : {v : Bool} → isForced r direction ≡ v → (not v || pairsWithin (slotAt b i) kind range) ≡ slotWithin b i t direction kind range
+      unfolding slotWithin
+      asked e =
+          sym (ap (λ (v : Bool). not v || pairsWithin (slotAt b i) kind range) e)
+          ∙ ap (λ (r : Record). not (isForced r direction) || pairsWithin (slotAt b i) kind range) (fields ∙ ap recordIn read)
+          ∙ sym (ap (λ (t : Bool). slotWithin b i t direction kind range) (not-false t counts))
 
-    pub slot-left : (t && isForced r direction) ≡ false → true ≡ slotWithin b i t direction kind range
-    slot-left e = asked e
+      pub slot-judged : {ok : Bool} → isForced r direction ≡ true → ok ≡ pairsWithin z kind range → ok ≡ slotWithin b i t direction kind range
+      slot-judged e p = p ∙ ap (λ (z : List ℕ). pairsWithin z kind range) read ∙ asked e
+
+      pub slot-left : isForced r direction ≡ false → true ≡ slotWithin b i t direction kind range
+      slot-left e = asked e

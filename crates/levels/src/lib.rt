@@ -397,6 +397,7 @@ pub fn sweep(
     )
 }
 
+// What warnings 2 and 4 ask of a level itself.
 fn power_within(kind: u8, range: PowerRange, power: Kilowatt) -> bool
     ensures { λ r. ⌜ r ≡ powerWithin kind range (power .0) ⌝ }
 {
@@ -410,7 +411,7 @@ fn power_within(kind: u8, range: PowerRange, power: Kilowatt) -> bool
     !high & !(((kind == W1) | (kind == M1)) & (power.0 < range.min.0))
 }
 
-// Every pair of a slot, none left out: a turn is short.
+// Every pair is tested, without an early exit: the turns are then alike.
 fn pairs_within(z: &[u8], kind: u8, range: PowerRange) -> bool
     ensures { λ r. ⌜ r ≡ pairsWithin (now (z .entry)) kind range ⌝ }
 {
@@ -426,9 +427,12 @@ fn pairs_within(z: &[u8], kind: u8, range: PowerRange) -> bool
 fn slot_within(b: &[u8], i: u8, counted: bool, direction: u8, kind: u8, range: PowerRange) -> bool
     ensures { λ r. ⌜ r ≡ slotWithin (now (b .entry)) i counted direction kind range ⌝ }
 {
+    if !counted {
+        return true;
+    }
     let z = block::slot_at(b, i);
     let r = block::record_in(z);
-    if counted & ((r.record_type == FORCED_WORK) & (r.direction == direction)) {
+    if (r.record_type == FORCED_WORK) & (r.direction == direction) {
         return pairs_within(z, kind, range);
     }
     true
