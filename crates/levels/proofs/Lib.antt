@@ -3,3 +3,4 @@ pub mod Parts
 pub mod Counted
 pub mod Tracks
 pub mod Turns
+pub mod Within

@@ -19,10 +19,11 @@ ghost use Rattle.fields.specs.Lists.{series};
 ghost use Rattle.quantities.specs.Quantities.{earlierOf};
 ghost use Rattle.rules.specs.Minutes.{noLevel, orElse, fitsW1M1, fitsZ1, levelsFit, aboveMax, belowMin};
 ghost use Rattle.levels.specs.Pairs.{pairOf, levelAmongPairs, Passed};
-ghost use Rattle.levels.specs.Counted.{sweptRecords};
+ghost use Rattle.levels.specs.Counted.{countedRecords, sweptRecords};
 ghost use Rattle.levels.specs.Lanes.{noLane, laneOf, reportLane, slotLane, laneAt, lanesOf, laneOfFields, laneIn, lanePair, laneLevel, levelAmongLanes, laneLevels, levelsOf, Stepped, Placed, Ended, Known, Tracked};
 ghost use Rattle.levels.specs.Stays.{Stays};
 ghost use Rattle.levels.specs.Result.{withSpan, foundIn, sweepResult};
+ghost use Rattle.levels.specs.Within.{powerWithin, pairsWithin, slotWithin, forcedWithin, levelWarnings};
 
 // A level, and a later minute up to which it stays.
 pub struct LevelSpan {
@@ -72,6 +73,12 @@ pub struct Track {
 // Question 17, and warnings 2 and 4.
 pub struct SweepResult {
     pub fits: bool,
+    pub above: bool,
+    pub below: bool,
+}
+
+// Warnings 2 and 4.
+pub struct LevelWarnings {
     pub above: bool,
     pub below: bool,
 }
@@ -526,4 +533,83 @@ pub fn sweep(
         kind,
         range,
     )
+}
+
+// What warnings 2 and 4 ask of a level itself.
+fn power_within(kind: u8, range: PowerRange, power: Kilowatt) -> bool
+    ensures { λ r. ⌜ r ≡ powerWithin kind range (power .0) ⌝ }
+{
+    let level = quantities::wide(power);
+    let max = quantities::wide(range.max);
+    let high = records::choose(
+        kind == Z1,
+        max < level + quantities::wide(range.min),
+        max < level,
+    );
+    !high & !(((kind == W1) | (kind == M1)) & (power.0 < range.min.0))
+}
+
+// Every pair is tested, without an early exit: the turns are then alike.
+fn pairs_within(z: &[u8], kind: u8, range: PowerRange) -> bool
+    ensures { λ r. ⌜ r ≡ pairsWithin (now (z .entry)) kind range ⌝ }
+{
+    let count = block::stored_count(z);
+    let mut ok = true;
+    for j in 0..count {
+        let pair = block::pair_at(z, j);
+        ok = ok & power_within(kind, range, pair.power);
+    }
+    ok
+}
+
+fn slot_within(b: &[u8], i: u8, counted: bool, direction: u8, kind: u8, range: PowerRange) -> bool
+    ensures { λ r. ⌜ r ≡ slotWithin (now (b .entry)) i counted direction kind range ⌝ }
+{
+    if !counted {
+        return true;
+    }
+    let z = block::slot_at(b, i);
+    let r = block::record_in(z);
+    if (r.record_type == FORCED_WORK) & (r.direction == direction) {
+        return pairs_within(z, kind, range);
+    }
+    true
+}
+
+fn forced_within(b: &[u8], counted: [bool; 8], direction: u8, kind: u8, range: PowerRange) -> bool
+    ensures { λ r. ⌜ r ≡ forcedWithin (now (b .entry)) counted direction kind range ⌝ }
+{
+    let mut ok = true;
+    for i in 0..8u8 {
+        ok = ok & slot_within(b, i, counted[i as usize], direction, kind, range);
+    }
+    ok
+}
+
+// Warnings 2 and 4 of the slots that count, in a period. Only where some level is beyond the limits is it swept.
+pub fn warn(
+    b: &[u8],
+    counted: [bool; 8],
+    direction: u8,
+    period: Period,
+    kind: u8,
+    range: PowerRange,
+) -> LevelWarnings
+    ensures { λ r. ⌜ r ≡ levelWarnings kind range (countedRecords (now (b .entry)) counted) direction (period .start .0) (period .end .0) ⌝ }
+{
+    if forced_within(b, counted, direction, kind, range) {
+        return LevelWarnings {
+            above: false,
+            below: false,
+        };
+    }
+    let swept = Swept {
+        counted,
+        with_report: false,
+    };
+    let g = sweep(b, b, swept, direction, period, kind, range);
+    LevelWarnings {
+        above: g.above,
+        below: g.below,
+    }
 }
