@@ -22,9 +22,9 @@ use Rattle.rules.specs.Block.{slotAt, used, recordIn, unitHead}
 use Rattle.rules.specs.Questions.{recordBy, rangeOf, leaves}
 use Rattle.rules.specs.Minutes.{FullRecord, recordsAmong, blockRecords, aboveMax, belowMin, levelsSome}
 use Rattle.rules.specs.After.{oneStopOneLevelled, blockAfter, someSlot, warnsOverlap, warnsMinute, warnsLeft, worth, warnings}
-use Rattle.levels.specs.declared.SweepResult.{SweepResult}
-use Rattle.levels.specs.Counted.{sweptRecords}
-use Rattle.levels.specs.Result.{sweepResult}
+use Rattle.levels.specs.declared.LevelWarnings.{LevelWarnings}
+use Rattle.levels.specs.Counted.{countedRecords}
+use Rattle.levels.specs.Within.{levelWarnings}
 use Rattle.judge.specs.Warned.{overlapAt, minuteWarnings, warningsOn}
 use Rattle.judge.proofs.Joins.{records-same}
 
@@ -35,19 +35,19 @@ pub warns-join : (after : List ℕ) (h : Head) {r : Record} {none : Bool} → r 
 unfolding warnsOverlap someSlot
 warns-join after h e p = ap not p ∙ rw e
 
-block-swept : (b s : List ℕ) → sweptRecords b s (series (λ i. used (slotAt b i)) 0 8) false ≡ blockRecords b
-unfolding sweptRecords blockRecords pick
-block-swept b s =
+block-counted : (b : List ℕ) → countedRecords b (series (λ i. used (slotAt b i)) 0 8) ≡ blockRecords b
+unfolding blockRecords
+block-counted b =
     records-same b (λ i. getD (series (λ i. used (slotAt b i)) 0 8) i false) (λ i. used (slotAt b i)) 0 8
     (λ j x y. series-at (λ i. used (slotAt b i)) 0 8 j false (omega arith) ∙ ap (λ (k : ℕ). used (slotAt b k)) (zero-add j))
 
 module _ (after : List ℕ) (h : Head) where
-  pub minutes-warn : {counted : List Bool} {u : UnitHead} {r : PowerRange} {g : SweepResult} {x y : ℕ} → h .«record_type» ≡ 4 → counted ≡ series (λ i. used (slotAt after i)) 0 8 → u ≡ unitHead after → r ≡ rangeOf (u .powers) (h .direction) → g ≡ sweepResult (u .kind) r (sweptRecords after after counted false) (h .direction) (h .period .start .0) (h .period .end .0) → x ≡ worth 2 (g .above) → y ≡ worth 4 (g .below) → x + y ≡ minuteWarnings after h
-  unfolding warnsMinute sweepResult
+  pub minutes-warn : {counted : List Bool} {u : UnitHead} {r : PowerRange} {g : LevelWarnings} {x y : ℕ} → h .«record_type» ≡ 4 → counted ≡ series (λ i. used (slotAt after i)) 0 8 → u ≡ unitHead after → r ≡ rangeOf (u .powers) (h .direction) → g ≡ levelWarnings (u .kind) r (countedRecords after counted) (h .direction) (h .period .start .0) (h .period .end .0) → x ≡ worth 2 (g .above) → y ≡ worth 4 (g .below) → x + y ≡ minuteWarnings after h
+  unfolding warnsMinute levelWarnings
   minutes-warn {counted} {u} {r} {g} {x} {y} t c f q p a b =
       let forced = eq-eqb (h .«record_type») 4 t in
-      let above : g .above ≡ warnsMinute aboveMax after h = ap (λ (g : SweepResult). g .above) p ∙ rw (forced, c, block-swept after after, q, f) in
-      let below : g .below ≡ warnsMinute belowMin after h = ap (λ (g : SweepResult). g .below) p ∙ rw (forced, c, block-swept after after, q, f) in
+      let above : g .above ≡ warnsMinute aboveMax after h = ap (λ (g : LevelWarnings). g .above) p ∙ rw (forced, c, block-counted after, q, f) in
+      let below : g .below ≡ warnsMinute belowMin after h = ap (λ (g : LevelWarnings). g .below) p ∙ rw (forced, c, block-counted after, q, f) in
       rw (a, b, above, below)
 
   pub minutes-silent : (h .«record_type» ≡ 4 → ⊥) → 0 ≡ minuteWarnings after h

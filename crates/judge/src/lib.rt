@@ -399,13 +399,10 @@ fn minute_warnings(after: &[u8], h: Head) -> u8
     if h.record_type != FORCED_WORK {
         return 0;
     }
-    let swept = Swept {
-        counted: used_slots(after),
-        with_report: false,
-    };
+    let counted = used_slots(after);
     let unit = block::unit_head(after);
     let range = records::range_of(unit.powers, h.direction);
-    let g = levels::sweep(after, after, swept, h.direction, h.period, unit.kind, range);
+    let g = levels::warn(after, counted, h.direction, h.period, unit.kind, range);
     worth_of(2, g.above) + worth_of(4, g.below)
 }
 

@@ -72,17 +72,15 @@ unfolding laneLevel laneOf pick
 lane-silent r f k type m = rw (le-ltb m 0 (omega arith), and-false)
 
 module _ (b s : List ℕ) (swept : Swept) (type direction m : ℕ) where
-  abbrev lanes : List Lane
-  lanes = series (laneAt b s swept direction) 0 9
+  abbrev lane : ℕ → Lane
+  lane = laneAt b s swept direction
 
   abbrev counts : ℕ → Bool
   counts i = getD (swept .counted) i false
 
-  lane-of-slot : (i : ℕ) → i < 8 → getD lanes (i + 1) noLane ≡ slotLane b i (counts i) direction
+  lane-of-slot : (i : ℕ) → lane (i + 1) ≡ slotLane b i (counts i) direction
   unfolding laneAt
-  lane-of-slot i l =
-      series-at (laneAt b s swept direction) 0 9 (i + 1) noLane (omega arith)
-      ∙ ap (laneAt b s swept direction) (zero-add (i + 1) ∙ add-one i)
+  lane-of-slot i = ap lane (add-one i)
 
   bytes-of-slot : (i : ℕ) → laneBytes b s (i + 1) ≡ slotAt b i
   unfolding laneBytes pick
@@ -90,11 +88,11 @@ module _ (b s : List ℕ) (swept : Swept) (type direction m : ℕ) where
       let back : i + 1 - 1 ≡ i = omega arith in
       rw (ne-eqb (i + 1) 0 (λ e. omega arith), back)
 
-  slots-lanes : (i n : ℕ) → i + n ≤ 8 → levelAmongLanes b s lanes type (i + 1) n m ≡ levelAmong (recordsAmong b counts i n) type direction m
+  slots-lanes : (i n : ℕ) → levelAmongLanes b s lane type (i + 1) n m ≡ levelAmong (recordsAmong b counts i n) type direction m
   unfolding levelAmongLanes levelAmong recordsAmong slotLane pick
-  slots-lanes i zero l = refl
-  slots-lanes i (suc n) l =
-      rw (lane-of-slot i (omega arith), bytes-of-slot i, ne-eqb (i + 1) 0 (λ e. omega arith), slots-lanes (i + 1) n (omega arith)) (by-case (counts i))
+  slots-lanes i zero = refl
+  slots-lanes i (suc n) =
+      rw (lane-of-slot i, bytes-of-slot i, ne-eqb (i + 1) 0 (λ e. omega arith), slots-lanes (i + 1) n) (by-case (counts i))
     where
       rest : List FullRecord
       rest = recordsAmong b counts (i + 1) n
@@ -106,9 +104,9 @@ module _ (b s : List ℕ) (swept : Swept) (type direction m : ℕ) where
           (slot-pairs (slotAt b i) 0 (storedCount (slotAt b i)) m (recordAt b i .period .start)))
       by-case false = ap (λ (v : Level). orElse v (levelAmong rest type direction m)) (lane-silent (recordAt b i) _ (storedCount (slotAt b i)) type m)
 
-  pub lanes-level : levelAmongLanes b s lanes type 0 9 m ≡ levelAmong (sweptRecords b s (swept .counted) (swept .«with_report»)) type direction m
-  unfolding levelAmongLanes levelAmong sweptRecords laneAt reportLane laneBytes pick series
-  lanes-level = rw (slots-lanes 0 8 (omega arith)) (by-case (swept .«with_report»)) where
+  pub lanes-level : levelAmongLanes b s lane type 0 9 m ≡ levelAmong (sweptRecords b s (swept .counted) (swept .«with_report»)) type direction m
+  unfolding levelAmongLanes levelAmong sweptRecords laneAt reportLane laneBytes pick
+  lanes-level = rw (slots-lanes 0 8) (by-case (swept .«with_report»)) where
     slots : List FullRecord
     slots = recordsAmong b counts 0 8
 
@@ -117,3 +115,15 @@ module _ (b s : List ℕ) (swept : Swept) (type direction m : ℕ) where
         ap (λ (v : Level). orElse v (levelAmong slots type direction m))
         (lane-level (eqb (recordOf s .direction) direction) (recordOf s) (partsOf s) _ (partCount s) type direction m refl (report-pairs s 0 (partCount s) m))
     by-case false = ap (λ (v : Level). orElse v (levelAmong slots type direction m)) (lane-silent (recordOf s) _ (partCount s) type m)
+
+-- lane i as it is read
+module _ (b s : List ℕ) (swept : Swept) (direction : ℕ) {i : ℕ} where
+  pub first-lane : {l : Lane} → i ≡ 0 → l ≡ reportLane s (swept .«with_report») direction → l ≡ laneAt b s swept direction i
+  unfolding laneAt
+  first-lane e q = q ∙ ap (laneAt b s swept direction) (sym e)
+
+  pub next-lane : {l : Lane} {t : Bool} → (i ≡ 0 → ⊥) → t ≡ getD (swept .counted) (i - 1) false → l ≡ slotLane b (i - 1) t direction → l ≡ laneAt b s swept direction i
+  unfolding laneAt
+  next-lane ne c q =
+      let e : suc (i - 1) ≡ i = omega arith in
+      q ∙ rw c (ap (laneAt b s swept direction) e)

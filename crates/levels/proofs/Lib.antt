@@ -1,5 +1,6 @@
 pub mod Spans
 pub mod Parts
 pub mod Counted
-pub mod Lanes
+pub mod Tracks
 pub mod Turns
+pub mod Within

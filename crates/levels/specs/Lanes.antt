@@ -1,9 +1,10 @@
 -- The records of a sweep as lanes: lane 0 is the report's, lane i + 1 that of slot i.
-use Prim.Native.Nat.{ℕ, zero, suc, _+_, _-_, _<_}
+use Prim.Native.Nat.{ℕ, zero, suc, _+_, _-_, _≤_, _<_}
+use mathlib.Core.Path.{_≡_}
 use mathlib.Core.List.{List}
 use mathlib.Core.Bool.{Bool, false, _&&_}
 use lib.Dec.{leb, ltb, eqb}
-use lib.ListN.{getD}
+use lib.ListN.{length, getD}
 use Rattle.fields.specs.Lists.{pick, series}
 use Rattle.quantities.specs.Quantities.{earlierOf}
 use Rattle.report.specs.Report.{partCount}
@@ -16,11 +17,12 @@ use Rattle.rules.specs.Questions.{recordOf, recordAt}
 use Rattle.rules.specs.Minutes.{noLevel, orElse}
 use Rattle.block.specs.declared.Pair.{Pair}
 use Rattle.levels.specs.declared.Lane.{Lane}
+use Rattle.levels.specs.declared.Lanes.{Lanes}
 use Rattle.levels.specs.declared.LaneSpan.{LaneSpan}
 use Rattle.levels.specs.declared.LevelSpan.{LevelSpan}
 use Rattle.levels.specs.declared.LevelsSpan.{LevelsSpan}
 use Rattle.levels.specs.declared.Swept.{Swept}
-use Rattle.levels.specs.declared.Turn.{Turn}
+use Rattle.levels.specs.declared.Track.{Track}
 use Rattle.levels.specs.Pairs.{pairOf, levelAmongPairs, Passed}
 use Rattle.levels.specs.Stays.{Stays}
 
@@ -57,18 +59,37 @@ laneLevel lane f type m =
     noLevel
 
 -- the first level of a type among the lanes i, i + 1, .. , n of them
-unfoldable pub levelAmongLanes : List ℕ → List ℕ → List Lane → ℕ → ℕ → ℕ → ℕ → Level
-levelAmongLanes b s lanes type i zero m = noLevel
-levelAmongLanes b s lanes type i (suc n) m =
-    orElse (laneLevel (getD lanes i noLane) (lanePair b s i) type m) (levelAmongLanes b s lanes type (i + 1) n m)
+unfoldable pub levelAmongLanes : List ℕ → List ℕ → (ℕ → Lane) → ℕ → ℕ → ℕ → ℕ → Level
+levelAmongLanes b s lane type i zero m = noLevel
+levelAmongLanes b s lane type i (suc n) m =
+    orElse (laneLevel (lane i) (lanePair b s i) type m) (levelAmongLanes b s lane type (i + 1) n m)
 
 -- the three levels of all lanes
-unfoldable pub laneLevels : List ℕ → List ℕ → List Lane → ℕ → Levels
-laneLevels b s lanes m = record {
-  forced = levelAmongLanes b s lanes forcedWork 0 9 m;
-  positive = levelAmongLanes b s lanes positiveDerating 0 9 m;
-  negative = levelAmongLanes b s lanes negativeDerating 0 9 m;
+unfoldable pub laneLevels : List ℕ → List ℕ → (ℕ → Lane) → ℕ → Levels
+laneLevels b s lane m = record {
+  forced = levelAmongLanes b s lane forcedWork 0 9 m;
+  positive = levelAmongLanes b s lane positiveDerating 0 9 m;
+  negative = levelAmongLanes b s lane negativeDerating 0 9 m;
 }
+
+-- the lanes as code keeps them, field by field
+unfoldable pub lanesOf : (ℕ → Lane) → Lanes
+lanesOf lane = record {
+  types = series (λ i. lane i .«record_type») 0 9;
+  starts = series (λ i. lane i .period .start .0) 0 9;
+  ends = series (λ i. lane i .period .end .0) 0 9;
+  counts = series (λ i. lane i .count) 0 9;
+}
+
+abbrev pub laneOfFields : List ℕ → List ℕ → List ℕ → List ℕ → ℕ → Lane
+laneOfFields types starts ends counts i = record {
+  «record_type» = getD types i 0;
+  period = record { start = record { 0 = getD starts i 0 }; end = record { 0 = getD ends i 0 } };
+  count = getD counts i 0;
+}
+
+abbrev pub laneIn : Lanes → ℕ → Lane
+laneIn lanes = laneOfFields (lanes .types) (lanes .starts) (lanes .ends) (lanes .counts)
 
 -- what a step in a lane of n pairs promises of its level and its place
 pub record Stepped (f : ℕ → Pair) (n m : ℕ) (level : ℕ → Level) (r : LaneSpan) : Type 0 where
@@ -76,22 +97,27 @@ pub record Stepped (f : ℕ → Pair) (n m : ℕ) (level : ℕ → Level) (r : L
   pub passed : Passed f n (r .place) m
 
 -- in every lane the pairs before its place have ended
-pub record Placed (b s : List ℕ) (lanes : List Lane) (places : List ℕ) (m : ℕ) : Type 0 where
-  pub at : (i : ℕ) → i < 9 → Passed (lanePair b s i) (getD lanes i noLane .count) (getD places i 0) m
+pub record Placed (b s : List ℕ) (lane : ℕ → Lane) (places : List ℕ) (m : ℕ) : Type 0 where
+  pub size : length places ≡ 9
+  pub at : (i : ℕ) → i < 9 → Passed (lanePair b s i) (lane i .count) (getD places i 0) m
 
--- the levels of each type among the lanes i, i + 1, .. , n of them
-pub record Spanned (b s : List ℕ) (lanes : List Lane) (i n m : ℕ) (positive negative forced : LevelSpan) : Type 0 where
-  pub positives : Stays (levelAmongLanes b s lanes positiveDerating i n) m positive
-  pub negatives : Stays (levelAmongLanes b s lanes negativeDerating i n) m negative
-  pub forceds : Stays (levelAmongLanes b s lanes forcedWork i n) m forced
+-- the lanes of a type before `from` have ended
+pub record Ended (types ends : List ℕ) (type from m : ℕ) : Type 0 where
+  pub most : from ≤ 9
+  pub before : (i : ℕ) → i < from → getD types i 0 ≡ type → getD ends i 0 ≤ m
 
-pub record Turned (b s : List ℕ) (lanes : List Lane) (m : ℕ) (r : Turn) : Type 0 where
-  pub spanned : Spanned b s lanes 0 9 m (r .positive) (r .negative) (r .forced)
-  pub placed : Placed b s lanes (r .places) m
+-- what is known of a type's level: it holds as long as it says
+pub record Known (b s : List ℕ) (types starts ends counts : List ℕ) (type m : ℕ) (track : Track) : Type 0 where
+  pub same : (k : ℕ) → m ≤ k → k < track .span .until .0 → levelAmongLanes b s (laneOfFields types starts ends counts) type 0 9 k ≡ track .span .level
+  pub ended : Ended types ends type (track .from) m
+
+pub record Tracked (b s : List ℕ) (types starts ends counts : List ℕ) (type m : ℕ) (track : Track) : Type 0 where
+  pub stays : Stays (levelAmongLanes b s (laneOfFields types starts ends counts) type 0 9) m (track .span)
+  pub ended : Ended types ends type (track .from) m
 
 -- the three levels, up to the first change of one
-abbrev pub levelsOf : Turn → LevelsSpan
-levelsOf turn = record {
-  levels = record { forced = turn .forced .level; positive = turn .positive .level; negative = turn .negative .level };
-  until = earlierOf (earlierOf (turn .forced .until) (turn .positive .until)) (turn .negative .until);
+abbrev pub levelsOf : LevelSpan → LevelSpan → LevelSpan → LevelsSpan
+levelsOf forced positive negative = record {
+  levels = record { forced = forced .level; positive = positive .level; negative = negative .level };
+  until = earlierOf (earlierOf (forced .until) (positive .until)) (negative .until);
 }

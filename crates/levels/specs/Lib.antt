@@ -3,3 +3,4 @@ pub mod Stays
 pub mod Counted
 pub mod Lanes
 pub mod Result
+pub mod Within

@@ -5,6 +5,7 @@ use quantities::Minute;
 use quantities::Period;
 use records::FORCED_WORK;
 use records::M1;
+use records::NEGATIVE_DERATING;
 use records::POSITIVE_DERATING;
 use records::W1;
 use records::Z1;
@@ -13,14 +14,16 @@ use rules::Levels;
 use rules::PowerRange;
 use rules::Record;
 ghost use mathlib.Core.Path.{_≡_};
-ghost use Prim.Native.Nat.{_<_};
+ghost use Prim.Native.Nat.{_-_, _<_, _≤_};
 ghost use Rattle.fields.specs.Lists.{series};
 ghost use Rattle.quantities.specs.Quantities.{earlierOf};
 ghost use Rattle.rules.specs.Minutes.{noLevel, orElse, fitsW1M1, fitsZ1, levelsFit, aboveMax, belowMin};
 ghost use Rattle.levels.specs.Pairs.{pairOf, levelAmongPairs, Passed};
-ghost use Rattle.levels.specs.Counted.{sweptRecords};
-ghost use Rattle.levels.specs.Lanes.{noLane, laneOf, reportLane, slotLane, laneAt, lanePair, laneLevel, laneLevels, levelsOf, Stepped, Placed, Turned};
+ghost use Rattle.levels.specs.Counted.{countedRecords, sweptRecords};
+ghost use Rattle.levels.specs.Lanes.{noLane, laneOf, reportLane, slotLane, laneAt, lanesOf, laneOfFields, laneIn, lanePair, laneLevel, levelAmongLanes, laneLevels, levelsOf, Stepped, Placed, Ended, Known, Tracked};
+ghost use Rattle.levels.specs.Stays.{Stays};
 ghost use Rattle.levels.specs.Result.{withSpan, foundIn, sweepResult};
+ghost use Rattle.levels.specs.Within.{powerWithin, pairsWithin, slotWithin, forcedWithin, levelWarnings};
 
 // A level, and a later minute up to which it stays.
 pub struct LevelSpan {
@@ -47,23 +50,35 @@ pub struct Lane {
     pub count: u16,
 }
 
+// The lanes, field by field.
+pub struct Lanes {
+    pub types: [u8; 9],
+    pub starts: [u32; 9],
+    pub ends: [u32; 9],
+    pub counts: [u16; 9],
+}
+
 // A lane's level, and its place: the pairs before it have ended.
 pub struct LaneSpan {
     pub span: LevelSpan,
     pub place: u16,
 }
 
-// The levels of positive deratings, negative deratings and forced work in a minute, and the lanes' places.
-pub struct Turn {
-    pub positive: LevelSpan,
-    pub negative: LevelSpan,
-    pub forced: LevelSpan,
-    pub places: [u16; 9],
+// The level of a type, and a lane: those of the type before it have ended.
+pub struct Track {
+    pub span: LevelSpan,
+    pub from: u8,
 }
 
 // Question 17, and warnings 2 and 4.
 pub struct SweepResult {
     pub fits: bool,
+    pub above: bool,
+    pub below: bool,
+}
+
+// Warnings 2 and 4.
+pub struct LevelWarnings {
     pub above: bool,
     pub below: bool,
 }
@@ -199,71 +214,161 @@ fn slot_lane(b: &[u8], i: u8, counted: bool, direction: u8) -> Lane
     lane_of(r.direction == direction, r, block::stored_count(z))
 }
 
-// The lanes of one direction.
-fn lanes_of(b: &[u8], report: &[u8], swept: Swept, direction: u8) -> [Lane; 9]
-    ensures { λ r. ⌜ r ≡ series (laneAt (now (b .entry)) (now (report .entry)) swept direction) 0 9 ⌝ }
+fn lane_at(b: &[u8], report: &[u8], swept: Swept, direction: u8, i: u8) -> Lane
+    requires { ⌜ i < 9 ⌝ }
+    ensures { λ r. ⌜ r ≡ laneAt (now (b .entry)) (now (report .entry)) swept direction i ⌝ }
 {
-    let first = report_lane(report, swept.with_report, direction);
-    let mut lanes = [first; 9];
-    for i in 0..8u8 {
-        let lane = slot_lane(b, i, swept.counted[i as usize], direction);
-        lanes[i as usize + 1] = lane;
+    if i == 0 {
+        return report_lane(report, swept.with_report, direction);
     }
-    lanes
+    let slot = i - 1;
+    slot_lane(b, slot, swept.counted[slot as usize], direction)
 }
 
-// The first of two levels that is there, up to the sooner change of the two.
-fn first_of(a: LevelSpan, b: LevelSpan) -> LevelSpan
-    ensures { λ r. ⌜ (r .level ≡ orElse (a .level) (b .level)) × (r .until ≡ earlierOf (a .until) (b .until)) ⌝ }
+// The lanes of one direction.
+fn lanes_of(b: &[u8], report: &[u8], swept: Swept, direction: u8) -> Lanes
+    ensures { λ r. ⌜ r ≡ lanesOf (laneAt (now (b .entry)) (now (report .entry)) swept direction) ⌝ }
 {
-    let until = quantities::earlier(a.until, b.until);
-    let level = if a.level.there { a.level } else { b.level };
-    LevelSpan { level, until }
+    let mut types = [0u8; 9];
+    let mut starts = [0u32; 9];
+    let mut ends = [0u32; 9];
+    let mut counts = [0u16; 9];
+    for i in 0..9u8 {
+        let lane = lane_at(b, report, swept, direction, i);
+        types[i as usize] = lane.record_type;
+        starts[i as usize] = lane.period.start.0;
+        ends[i as usize] = lane.period.end.0;
+        counts[i as usize] = lane.count;
+    }
+    Lanes {
+        types,
+        starts,
+        ends,
+        counts,
+    }
 }
 
-// The three levels in a minute, from the last lane to the first, each looked up from the lane's place on.
-fn step_lanes(b: &[u8], report: &[u8], lanes: [Lane; 9], places: [u16; 9], m: Minute) -> Turn
-    requires { ⌜ m .0 < 4294967295 ⌝ }
-    requires { ⌜ Placed (now b) (now report) lanes places (m .0) ⌝ }
-    ensures { λ r. ⌜ Turned (now (b .entry)) (now (report .entry)) lanes (m .0) r ⌝ }
+fn lane_in(types: &[u8; 9], starts: &[u32; 9], ends: &[u32; 9], counts: &[u16; 9], i: u8) -> Lane
+    requires { ⌜ i < 9 ⌝ }
+    ensures { λ r. ⌜ r ≡ laneOfFields (now (types .entry)) (now (starts .entry)) (now (ends .entry)) (now (counts .entry)) i ⌝ }
 {
-    let mut positive = none_until(Minute(4294967295));
-    let mut negative = positive;
-    let mut forced = positive;
-    let mut places = places;
-    let mut i: u8 = 9;
-    while 0 < i {
-        i -= 1;
-        let lane = lanes[i as usize];
-        if records::is_levelled(lane.record_type) {
-            let step = step_lane(b, report, i, lane, places[i as usize], m);
-            places[i as usize] = step.place;
-            if lane.record_type == FORCED_WORK {
-                forced = first_of(step.span, forced);
-            } else if lane.record_type == POSITIVE_DERATING {
-                positive = first_of(step.span, positive);
-            } else {
-                negative = first_of(step.span, negative);
+    let start = Minute(starts[i as usize]);
+    let end = Minute(ends[i as usize]);
+    let period = Period { start, end };
+    Lane {
+        record_type: types[i as usize],
+        period,
+        count: counts[i as usize],
+    }
+}
+
+// The first lane from `from` on that is of the type and has not ended, or 9.
+fn pass_ended(types: &[u8; 9], ends: &[u32; 9], record_type: u8, from: u8, m: Minute) -> u8
+    requires { ⌜ Ended (now types) (now ends) «record_type» from (m .0) ⌝ }
+    ensures { λ r. ⌜ Ended (now (types .entry)) (now (ends .entry)) «record_type» r (m .0) ⌝ }
+{
+    let mut i = from;
+    while i < 9 {
+        if (types[i as usize] == record_type) & (m.0 < ends[i as usize]) {
+            return i;
+        }
+        i += 1;
+    }
+    i
+}
+// Nothing is known yet.
+fn untracked() -> Track
+    ensures { λ r. ⌜ (r .span .until .0 ≡ 0) × (r .from ≡ 0) ⌝ }
+{
+    let span = none_until(Minute(0));
+    Track { span, from: 0 }
+}
+
+// The level of a type from lane `from` on: that of the first lane that has one, up to its change or to the start of a lane
+// before it.
+fn level_from(
+    b: &[u8],
+    report: &[u8],
+    types: &[u8; 9],
+    starts: &[u32; 9],
+    ends: &[u32; 9],
+    counts: &[u16; 9],
+    places: &mut [u16; 9],
+    record_type: u8,
+    from: u8,
+    m: Minute,
+) -> LevelSpan
+    requires { ⌜ (m .0 < 4294967295) × (from ≤ 9) ⌝ }
+    requires { ⌜ Placed (now b) (now report) (laneOfFields (now types) (now starts) (now ends) (now counts)) (now places) (m .0) ⌝ }
+    ensures { λ r. ⌜ Stays (levelAmongLanes (now (b .entry)) (now (report .entry)) (laneOfFields (now (types .entry)) (now (starts .entry)) (now (ends .entry)) (now (counts .entry))) «record_type» from (9 - from)) (m .0) r ⌝ }
+    ensures { λ _. ⌜ Placed (now (b .entry)) (now (report .entry)) (laneOfFields (now (types .entry)) (now (starts .entry)) (now (ends .entry)) (now (counts .entry))) (now (places .exit)) (m .0) ⌝ }
+{
+    let mut until = Minute(4294967295);
+    let mut i = from;
+    while i < 9 {
+        let at = i;
+        i += 1;
+        if types[at as usize] == record_type {
+            let lane = lane_in(types, starts, ends, counts, at);
+            let step = step_lane(b, report, at, lane, places[at as usize], m);
+            places[at as usize] = step.place;
+            until = quantities::earlier(until, step.span.until);
+            if step.span.level.there {
+                let level = step.span.level;
+                return LevelSpan { level, until };
             }
         }
     }
-    Turn {
-        positive,
-        negative,
-        forced,
-        places,
+    none_until(until)
+}
+
+// A type's level in a minute: what is known of it, where that still holds.
+fn follow(
+    b: &[u8],
+    report: &[u8],
+    types: &[u8; 9],
+    starts: &[u32; 9],
+    ends: &[u32; 9],
+    counts: &[u16; 9],
+    places: &mut [u16; 9],
+    record_type: u8,
+    known: Track,
+    m: Minute,
+) -> Track
+    requires { ⌜ m .0 < 4294967295 ⌝ }
+    requires { ⌜ Placed (now b) (now report) (laneOfFields (now types) (now starts) (now ends) (now counts)) (now places) (m .0) ⌝ }
+    requires { ⌜ Known (now b) (now report) (now types) (now starts) (now ends) (now counts) «record_type» (m .0) known ⌝ }
+    ensures { λ r. ⌜ Tracked (now (b .entry)) (now (report .entry)) (now (types .entry)) (now (starts .entry)) (now (ends .entry)) (now (counts .entry)) «record_type» (m .0) r ⌝ }
+    ensures { λ _. ⌜ Placed (now (b .entry)) (now (report .entry)) (laneOfFields (now (types .entry)) (now (starts .entry)) (now (ends .entry)) (now (counts .entry))) (now (places .exit)) (m .0) ⌝ }
+{
+    if m.0 < known.span.until.0 {
+        return known;
     }
+    let from = pass_ended(types, ends, record_type, known.from, m);
+    let span = level_from(
+        b,
+        report,
+        types,
+        starts,
+        ends,
+        counts,
+        places,
+        record_type,
+        from,
+        m,
+    );
+    Track { span, from }
 }
 
 // The three levels, up to the first change of one.
-fn levels_of(turn: Turn) -> LevelsSpan
-    ensures { λ r. ⌜ r ≡ levelsOf turn ⌝ }
+fn levels_of(f: LevelSpan, p: LevelSpan, n: LevelSpan) -> LevelsSpan
+    ensures { λ r. ⌜ r ≡ levelsOf f p n ⌝ }
 {
-    let forced = turn.forced.level;
-    let positive = turn.positive.level;
-    let negative = turn.negative.level;
-    let sooner = quantities::earlier(turn.forced.until, turn.positive.until);
-    let until = quantities::earlier(sooner, turn.negative.until);
+    let forced = f.level;
+    let positive = p.level;
+    let negative = n.level;
+    let sooner = quantities::earlier(f.until, p.until);
+    let until = quantities::earlier(sooner, n.until);
     let levels = Levels {
         forced,
         positive,
@@ -337,15 +442,22 @@ fn add_span(g: SweepResult, kind: u8, range: PowerRange, l: Levels) -> SweepResu
 fn sweep_lanes(
     b: &[u8],
     report: &[u8],
-    lanes: [Lane; 9],
+    lanes: Lanes,
     period: Period,
     kind: u8,
     range: PowerRange,
 ) -> SweepResult
-    ensures { λ r. ⌜ r ≡ foundIn (laneLevels (now (b .entry)) (now (report .entry)) lanes) kind range (period .start .0) (period .end .0) ⌝ }
+    ensures { λ r. ⌜ r ≡ foundIn (laneLevels (now (b .entry)) (now (report .entry)) (laneIn lanes)) kind range (period .start .0) (period .end .0) ⌝ }
 {
+    let types = lanes.types;
+    let starts = lanes.starts;
+    let ends = lanes.ends;
+    let counts = lanes.counts;
     let end = period.end;
     let mut places = [0u16; 9];
+    let mut forced = untracked();
+    let mut positive = forced;
+    let mut negative = forced;
     let mut m = period.start;
     let mut g = SweepResult {
         fits: true,
@@ -353,16 +465,49 @@ fn sweep_lanes(
         below: false,
     };
     while m.0 < end.0 {
-        let turn = step_lanes(b, report, lanes, places, m);
-        places = turn.places;
-        let forced = turn.forced;
-        if forced.level.there {
-            let span = levels_of(turn);
+        forced = follow(
+            b,
+            report,
+            &types,
+            &starts,
+            &ends,
+            &counts,
+            &mut places,
+            FORCED_WORK,
+            forced,
+            m,
+        );
+        if forced.span.level.there {
+            positive = follow(
+                b,
+                report,
+                &types,
+                &starts,
+                &ends,
+                &counts,
+                &mut places,
+                POSITIVE_DERATING,
+                positive,
+                m,
+            );
+            negative = follow(
+                b,
+                report,
+                &types,
+                &starts,
+                &ends,
+                &counts,
+                &mut places,
+                NEGATIVE_DERATING,
+                negative,
+                m,
+            );
+            let span = levels_of(forced.span, positive.span, negative.span);
             let levels = span.levels;
             g = add_span(g, kind, range, levels);
             m = quantities::earlier(span.until, end);
         } else {
-            m = quantities::earlier(forced.until, end);
+            m = quantities::earlier(forced.span.until, end);
         }
     }
     g
@@ -388,4 +533,83 @@ pub fn sweep(
         kind,
         range,
     )
+}
+
+// What warnings 2 and 4 ask of a level itself.
+fn power_within(kind: u8, range: PowerRange, power: Kilowatt) -> bool
+    ensures { λ r. ⌜ r ≡ powerWithin kind range (power .0) ⌝ }
+{
+    let level = quantities::wide(power);
+    let max = quantities::wide(range.max);
+    let high = records::choose(
+        kind == Z1,
+        max < level + quantities::wide(range.min),
+        max < level,
+    );
+    !high & !(((kind == W1) | (kind == M1)) & (power.0 < range.min.0))
+}
+
+// Every pair is tested, without an early exit: the turns are then alike.
+fn pairs_within(z: &[u8], kind: u8, range: PowerRange) -> bool
+    ensures { λ r. ⌜ r ≡ pairsWithin (now (z .entry)) kind range ⌝ }
+{
+    let count = block::stored_count(z);
+    let mut ok = true;
+    for j in 0..count {
+        let pair = block::pair_at(z, j);
+        ok = ok & power_within(kind, range, pair.power);
+    }
+    ok
+}
+
+fn slot_within(b: &[u8], i: u8, counted: bool, direction: u8, kind: u8, range: PowerRange) -> bool
+    ensures { λ r. ⌜ r ≡ slotWithin (now (b .entry)) i counted direction kind range ⌝ }
+{
+    if !counted {
+        return true;
+    }
+    let z = block::slot_at(b, i);
+    let r = block::record_in(z);
+    if (r.record_type == FORCED_WORK) & (r.direction == direction) {
+        return pairs_within(z, kind, range);
+    }
+    true
+}
+
+fn forced_within(b: &[u8], counted: [bool; 8], direction: u8, kind: u8, range: PowerRange) -> bool
+    ensures { λ r. ⌜ r ≡ forcedWithin (now (b .entry)) counted direction kind range ⌝ }
+{
+    let mut ok = true;
+    for i in 0..8u8 {
+        ok = ok & slot_within(b, i, counted[i as usize], direction, kind, range);
+    }
+    ok
+}
+
+// Warnings 2 and 4 of the slots that count, in a period. Only where some level is beyond the limits is it swept.
+pub fn warn(
+    b: &[u8],
+    counted: [bool; 8],
+    direction: u8,
+    period: Period,
+    kind: u8,
+    range: PowerRange,
+) -> LevelWarnings
+    ensures { λ r. ⌜ r ≡ levelWarnings kind range (countedRecords (now (b .entry)) counted) direction (period .start .0) (period .end .0) ⌝ }
+{
+    if forced_within(b, counted, direction, kind, range) {
+        return LevelWarnings {
+            above: false,
+            below: false,
+        };
+    }
+    let swept = Swept {
+        counted,
+        with_report: false,
+    };
+    let g = sweep(b, b, swept, direction, period, kind, range);
+    LevelWarnings {
+        above: g.above,
+        below: g.below,
+    }
 }

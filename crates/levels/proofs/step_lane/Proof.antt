@@ -1,5 +1,5 @@
 use native.Mathlib.Omega.{arith}
-use Rattle.levels.proofs.Lanes.{first-passed, first-stepped, slot-passed, slot-stepped}
+use Rattle.levels.proofs.Tracks.{first-passed, first-stepped, slot-passed, slot-stepped}
 use borrow.Author.Needs.{needs}
 use Rattle.levels.proofs.step_lane.Statement.{statement}
 use Rattle.levels.proofs.step_lane.Tie as tie
