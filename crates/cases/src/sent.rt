@@ -10,7 +10,9 @@ use records::POSITIVE_DERATING;
 use records::STOP;
 use records::W1;
 use records::Z1;
+ghost use mathlib.Core.Path.{_≡_};
 ghost use Prim.Native.Nat.{_≤_};
+ghost use Rattle.cases.specs.Sent.{sentAs, deratingOver, deratingSent, forcedSent, stopSent, eventSent, partsSent, lengthSent};
 
 // "D is 13,760,640, which is 2026-03-01 00:00."
 pub(crate) const D: u32 = 13760640;
@@ -31,65 +33,103 @@ pub(crate) struct Sent {
     pub(crate) step_power: u32,
 }
 
-// "Unless said: create, positive derating, owner 7, direction 1, planned, ordinal 1, t = 0, .. 20,000 in one part D+60 to D+120"
-pub(crate) fn derating(place: u8) -> Sent {
+// On unit 1, by owner 7, without a step.
+fn sent_as(
+    record_type: u8,
+    start_mark: u8,
+    qualification: u8,
+    place: u8,
+    stamp: u32,
+    start: u32,
+    end: u32,
+    power: u32,
+) -> Sent
+    ensures { λ r. ⌜ r ≡ sentAs «record_type» «start_mark» qualification place stamp start end power ⌝ }
+{
     Sent {
         unit: 1,
         owner: 7,
-        record_type: POSITIVE_DERATING,
-        start_mark: PLANNED,
-        qualification: 0,
+        record_type,
+        start_mark,
+        qualification,
         place,
-        stamp: D + 10,
-        start: D + 60,
-        end: D + 120,
-        power: 20000,
+        stamp,
+        start,
+        end,
+        power,
         step_at: 0,
         step_power: 0,
     }
 }
 
-pub(crate) fn derating_over(place: u8, stamp: u32, start: u32, end: u32) -> Sent {
-    let mut s = derating(place);
-    s.stamp = stamp;
-    s.start = start;
-    s.end = end;
-    s
+pub(crate) fn derating_over(place: u8, stamp: u32, start: u32, end: u32) -> Sent
+    ensures { λ r. ⌜ r ≡ deratingOver place stamp start end ⌝ }
+{
+    sent_as(
+        POSITIVE_DERATING,
+        PLANNED,
+        0,
+        place,
+        stamp,
+        start,
+        end,
+        20000,
+    )
 }
 
-pub(crate) fn forced(place: u8, power: u32) -> Sent {
-    let mut s = derating(place);
-    s.record_type = FORCED_WORK;
-    s.power = power;
-    s
+// "Unless said: create, positive derating, owner 7, direction 1, planned, ordinal 1, t = 0, .. 20,000 in one part D+60 to D+120"
+pub(crate) fn derating(place: u8) -> Sent
+    ensures { λ r. ⌜ r ≡ deratingSent place ⌝ }
+{
+    derating_over(place, D + 10, D + 60, D + 120)
+}
+
+pub(crate) fn forced(place: u8, power: u32) -> Sent
+    ensures { λ r. ⌜ r ≡ forcedSent place power ⌝ }
+{
+    sent_as(
+        FORCED_WORK,
+        PLANNED,
+        0,
+        place,
+        D + 10,
+        D + 60,
+        D + 120,
+        power,
+    )
 }
 
 // "stops and "one from" end D+180"
-pub(crate) fn begun_stop(place: u8, qualification: u8, start: u32) -> Sent {
-    let mut s = derating_over(place, D + 10, start, D + 180);
-    s.record_type = STOP;
-    s.start_mark = EXECUTED;
-    s.qualification = qualification;
-    s
+pub(crate) fn begun_stop(place: u8, qualification: u8, start: u32) -> Sent
+    ensures { λ r. ⌜ r ≡ stopSent place qualification start ⌝ }
+{
+    sent_as(
+        STOP,
+        EXECUTED,
+        qualification,
+        place,
+        D + 10,
+        start,
+        D + 180,
+        20000,
+    )
 }
 
 // "events start at D+10, end = start, mark 2, identifier zero"
-pub(crate) fn event(code: u8) -> Sent {
-    let mut s = begun_stop(0, code, D + 10);
-    s.record_type = EVENT;
-    s.end = D + 10;
-    s
+pub(crate) fn event(code: u8) -> Sent
+    ensures { λ r. ⌜ r ≡ eventSent code ⌝ }
+{
+    sent_as(EVENT, EXECUTED, code, 0, D + 10, D + 10, D + 10, 20000)
 }
 
 fn part_count(s: Sent) -> u16
     ensures { λ r. ⌜ r ≤ 2 ⌝ }
+    ensures { λ r. ⌜ r ≡ partsSent s ⌝ }
 {
-    if !records::is_levelled(s.record_type) {
-        0
-    } else if s.step_at == 0 {
-        1
+    if records::is_levelled(s.record_type) {
+        if s.step_at == 0 { 1 } else { 2 }
     } else {
-        2
+        0
     }
 }
 
@@ -137,21 +177,32 @@ fn put_codes(report: &mut [u8], s: Sent) {
     fields::put_u8(report, 11, s.qualification);
 }
 
-// Puts the report's bytes; how many they are.
-pub(crate) fn compose(report: &mut [u8], s: Sent) -> usize
-    ensures { λ r. ⌜ r ≤ 82 ⌝ }
-{
-    let text_at = 48 + 16 * (part_count(s) as usize);
-    put_address(report, s);
-    put_codes(report, s);
-    put_identifier(report, s.place);
+fn put_times(report: &mut [u8], s: Sent) {
     fields::put_u32(report, 32, s.stamp);
     fields::put_u32(report, 36, s.start);
     fields::put_u32(report, 40, s.end);
     fields::put_u32(report, 44, 0);
+}
+
+fn length_of(s: Sent) -> usize
+    ensures { λ r. ⌜ (50 ≤ r) × (r ≤ 82) ⌝ }
+    ensures { λ r. ⌜ r ≡ lengthSent s ⌝ }
+{
+    50 + 16 * (part_count(s) as usize)
+}
+
+// Puts the report's bytes; how many they are.
+pub(crate) fn compose(report: &mut [u8], s: Sent) -> usize
+    ensures { λ r. ⌜ r ≤ 82 ⌝ }
+    ensures { λ r. ⌜ r ≡ lengthSent s ⌝ }
+{
+    put_address(report, s);
+    put_codes(report, s);
+    put_identifier(report, s.place);
+    put_times(report, s);
     put_parts(report, s);
-    fields::put_u16(report, text_at, 0x5854);
-    text_at + 2
+    fields::put_u16(report, length_of(s) - 2, 0x5854);
+    length_of(s)
 }
 
 fn put_entry(roster: &mut [u8], at: usize, owner: u16, kind: u8, state: u8, max: u32, min: u32)
