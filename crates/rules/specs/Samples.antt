@@ -125,7 +125,7 @@ eventAt code start = created event start start [] but mark executed but qualific
 abbrev pub slotOf : List ℕ → List ℕ
 slotOf s = slotBytes (recordOf s) (partsOf s)
 
--- "Roster entry, 28 bytes: mark 4A 47; owner u16; kind u8; state u8; qualification u8; zero u8; since u32; Pmax and Pmin .."
+-- "Roster entry, 28 bytes: mark 4A 47; owner u16 ..; kind u8 ..; state u8; qualification u8; zero u8; since u32; Pmax and Pmin .."
 unfoldable pub entryBytes : RosterEntry → List ℕ
 entryBytes e =
     bytesOf 2 entryMark ++ bytesOf 2 (e .owner) ++ (e .kind ∷ e .row .state ∷ e .row .qualification ∷ 0 ∷ [])

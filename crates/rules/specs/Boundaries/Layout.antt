@@ -51,7 +51,7 @@ codes =
     ∷ not (overlap (period 1 2) (period 0 1))
     ∷ []
 
--- "Roster entry, 28 bytes: mark 4A 47; owner u16; kind u8; state u8; qualification u8; zero u8; since u32; Pmax and Pmin for
+-- "Roster entry, 28 bytes: mark 4A 47; owner u16 ..; kind u8 ..; state u8; qualification u8; zero u8; since u32; Pmax and Pmin for
 -- generation, then for consumption, u32 each."
 abbrev pub entryAsBytes : List ℕ
 entryAsBytes =
