@@ -8,12 +8,14 @@ use lib.Dec.{eqb}
 use lib.ListN.{length, take, drop}
 use borrow.Author.Tests.{eqb-true}
 use Rattle.fields.specs.Fields.{uintAt, bytesOf}
-use Rattle.fields.specs.Lists.{pick, and-each, every, all, series}
+use Rattle.fields.specs.Lists.{pick, and-each, every, all, series, put}
 use Rattle.fields.proofs.Bools.{and-left, and-right}
 use Rattle.report.specs.Report.{sized, marked, whole}
+use Rattle.report.specs.Encoded.{encodeHead, encodeParts, encodeReport}
 use Rattle.rules.specs.declared.Answer.{Answer}
 use Rattle.rules.specs.Block.{zeros}
-use Rattle.rules.specs.Cases.{Expected, rosterA, partBytes, reportBytes, sameAnswers, right, loggedReports, logged}
+use Rattle.rules.specs.Cases.{Expected, rosterA, sameAnswers, right, loggedReports, logged}
+use Rattle.rules.specs.Samples.{entryBytes}
 use Rattle.rules.specs.Desk.{newRegister, setUp, answers}
 use Rattle.rules.proofs.Worked.{good, logged-right}
 use Rattle.calendar.specs.Calendar.{daysIn, monthStart, monthOf, dateOf, dateText}
@@ -44,20 +46,19 @@ unfolding right
 answered = same-answers (logged .expected) (answers (newRegister rosterA) loggedReports) logged-right
 
 two-entries : entriesRead 8 streamA ≡ 2
-unfolding entriesRead pick uintAt streamA rosterA bytesOf oneAfterOther reportBytes
+unfolding entriesRead pick uintAt streamA rosterA bytesOf oneAfterOther put entryBytes encodeHead encodeReport
 two-entries = refl
 
 set-up : setUp rosterA (zeros 14336) ≡ record { number = 0; after = newRegister rosterA }
-unfolding setUp pick rosterA bytesOf zeros
+unfolding setUp pick rosterA entryBytes bytesOf zeros
 set-up = rw good
 
 roster : take 56 streamA ≡ rosterA
-unfolding streamA rosterA bytesOf oneAfterOther reportBytes
+unfolding streamA rosterA bytesOf oneAfterOther put entryBytes encodeHead encodeReport
 roster = refl
 
 reports : reportsRead (length streamA) (drop 56 streamA) ≡ loggedReports
-unfolding reportsRead statedLength pick and-each every all series uintAt sized marked whole streamA rosterA bytesOf oneAfterOther
-    reportBytes partBytes
+unfolding reportsRead statedLength pick and-each every all series uintAt sized marked whole streamA rosterA bytesOf oneAfterOther put entryBytes encodeHead encodeParts encodeReport
 reports = refl
 
 march : monthOf 9556 ≡ 314
@@ -67,7 +68,7 @@ march = sym (month-here {day = 9556} {n = 314} {s = 9556} refl refl (omega arith
 lines : logHeader ++ (linesOf 1 loggedReports (expectedAnswers (logged .expected)) ++ totalsLine
     (totalsOf (expectedAnswers (logged .expected)))) ≡ logA
 unfolding linesOf lineText unitText stampText totalsLine dateOf dateText decimalBefore monthStart daysIn pick expectedAnswers
-    countOf uintAt bytesOf reportBytes partBytes
+    countOf uintAt bytesOf put encodeHead encodeParts encodeReport
 lines = rw march
 
 pub roster-a-log : shiftLog streamA ≡ logA
