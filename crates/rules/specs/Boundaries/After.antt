@@ -132,6 +132,10 @@ leaving =
     (unitW ++ begunStop3)
     ∷ []
 
--- a refusal leaves the page
+-- a refusal leaves the page; "Refusals carry warnings 0."
 abbrev pub refusals : List Bool
-refusals = sameBytes unitW (judge unitW (positive 200001 but stamp 14) .after) ∷ []
+refusals =
+    sameBytes unitW (judge unitW (positive 200001 but stamp 14) .after)
+    ∷ eqb (judge (unitW ++ held (positive 20000)) (forced 200001) .answer .number) 17
+    ∷ eqb (judge (unitW ++ held (positive 20000)) (forced 200001) .answer .warnings) 0
+    ∷ []

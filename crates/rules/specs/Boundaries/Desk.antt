@@ -54,18 +54,16 @@ registerGives n register s = eqb (answerTo register s .answer .number) n
 abbrev pub registerOfOne : List ℕ
 registerOfOne = newRegister (entryBytes entryW)
 
--- 1 before 2 before 3, and then the unit's page; "block i for unit i"
+-- 1 before 2 before 3, then the unit's page; all blocks are judged, whosever the report is
 abbrev pub asked : List Bool
 asked =
     registerGives 1 [] []
     ∷ registerGives 1 (registerOfOne but byte 9 1) []
-    ∷ registerGives 1 (registerOfTwo but half 7170 1) []
     ∷ registerGives 2 registerOfOne []
     ∷ registerGives 2 registerOfOne (positive 20000 but owner 8 but byte 46 1)
     ∷ registerGives 3 registerOfOne (positive 20000 but owner 8)
-    ∷ registerGives 16 registerOfOne (positive 200001)
-    ∷ registerGives 0 registerOfOne (positive 200000)
     ∷ registerGives 16 registerOfTwo (positive 190001 but unit 2 but owner 8)
+    ∷ registerGives 1 (registerOfTwo but half 7170 1) (positive 20000)
     ∷ sameBytes (zeros 7168 ++ (1 ∷ 2 ∷ [])) (withBlock (zeros 14336) 2 (1 ∷ 2 ∷ []))
     ∷ sameBytes (1 ∷ 2 ∷ []) (withBlock (zeros 14336) 1 (1 ∷ 2 ∷ []))
     ∷ []

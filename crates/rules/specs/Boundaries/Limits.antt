@@ -188,10 +188,8 @@ room =
     ∷ gives 0 (unitW ++ crowded) (plannedStop 1 45 60 but stamp 30)
     ∷ gives 19 (unitW but row RP 1 5 ++ crowdedOffGrid) (plannedStop 1 15 30)
     ∷ gives 0 (unitW but row RP 1 5 ++ crowdedOffGrid) (begunStop 1 6 30)
-    -- the last slot counts for 12 and 15, a change, a withdrawal and an event want no slot
+    -- the last slot counts for 12 and 15; a change wants no slot
     ∷ gives 15 (unitW ++ crowded) (levelled positiveDerating 120 135 20000)
     ∷ gives 19 (unitW ++ crowded) (levelled positiveDerating 135 150 20000)
     ∷ gives 0 (unitW ++ crowded) (changed (levelled positiveDerating 135 150 20000) but identifier 9)
-    ∷ gives 0 (unitW ++ crowded) (withdrawn positiveDerating 120 135 but identifier 9)
-    ∷ gives 0 (unitW ++ crowded) (eventAt 5 10)
     ∷ []

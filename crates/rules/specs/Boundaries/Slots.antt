@@ -1,8 +1,10 @@
 -- Questions 10 to 15: the report against the unit's slots.
 use mathlib.Core.List.{List, [], _∷_, _++_}
-use mathlib.Core.Bool.{Bool}
+use mathlib.Core.Bool.{Bool, not}
 use Prim.Native.Nat.{ℕ}
 use Rattle.rules.specs.Codes.{stop, positiveDerating, negativeDerating, forcedWork, event, planned, executed, R, RP}
+use Rattle.rules.specs.Records.{closes}
+use Rattle.rules.specs.Questions.{recordOf}
 use Rattle.rules.specs.Samples.{_but_, byte, operation, direction, mark, qualification, ordinal, identifier, stamp, start, end, levelled, plannedStop, begunStop, eventAt, slotOf}
 use Rattle.rules.specs.Boundaries.Tests.{unitW, unitM, row, positive, negative, forced, offGridAt, held, changed, withdrawn, gives}
 
@@ -132,6 +134,7 @@ closing =
     ∷ gives 15 stopped (plannedStop 2 15 30)
     ∷ gives 15 (unitW ++ held (begunFrom 5 30)) (begunFrom 6 30)
     ∷ gives 15 (unitW but row RP 1 5 ++ held (offGridAt 1 5 30)) (offGridAt 1 6 30)
+    ∷ not (closes (recordOf (begunStop 2 6 30)) (recordOf (begunFrom 5 30)))
     -- each of two
     ∷ gives 15 (stopped ++ slotOf (plannedStop 1 15 30 but identifier 3)) (begunStop 2 6 30)
     ∷ gives 15 (unitW but row R 1 5 ++ held (plannedStop 1 15 30) ++ slotOf (begunStop 1 5 30 but identifier 3)) (begunStop 2 6 30)

@@ -2,6 +2,7 @@
 use Prim.Native.Nat.{ℕ}
 use mathlib.Core.List.{List, [], _∷_, _++_}
 use mathlib.Core.Bool.{Bool, true, false, not}
+use Rattle.report.specs.Report.{headOf}
 use Rattle.rules.specs.declared.Level.{Level}
 use Rattle.rules.specs.declared.Levels.{Levels}
 use Rattle.rules.specs.Codes.{positiveDerating, negativeDerating, forcedWork, executed, W1, M1, Z1, R, RP}
@@ -12,13 +13,13 @@ use Rattle.rules.specs.Boundaries.Tests.{entryW, unitW, unitM, unitZ, un
 
 -- warnings 1, 2 and 4 with the block afterwards written out: the page, and the reported record in its last slot
 abbrev pub warns1 : List ℕ → List ℕ → Bool
-warns1 page s = warnsOverlap (page ++ slotOf s) s
+warns1 page s = warnsOverlap (page ++ slotOf s) (headOf s)
 
 abbrev pub warns2 : List ℕ → List ℕ → Bool
-warns2 page s = warnsMinute aboveMax (page ++ slotOf s) s
+warns2 page s = warnsMinute aboveMax (page ++ slotOf s) (headOf s)
 
 abbrev pub warns4 : List ℕ → List ℕ → Bool
-warns4 page s = warnsMinute belowMin (page ++ slotOf s) s
+warns4 page s = warnsMinute belowMin (page ++ slotOf s) (headOf s)
 
 -- "1 a derating or forced work overlaps a stop with meeting direction, whichever is reported"
 abbrev pub warning1 : List Bool

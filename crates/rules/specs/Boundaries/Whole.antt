@@ -10,9 +10,9 @@ use Rattle.rules.specs.Codes.{stop, positiveDerating, negativeDerating, 
 use Rattle.rules.specs.Roster.{entryGood, piecesPass, rosterGood}
 use Rattle.rules.specs.Block.{zeros, unitHead, recordIn, partsIn}
 use Rattle.rules.specs.Whole.{headInRange, recordHolds, slotWhole, slotsApart, blockWhole, registerWhole}
-use Rattle.rules.specs.Samples.{D, minute, _but_, byte, half, word, direction, mark, identifier, stamp, levelled, plannedStop, begunStop, slotOf, entryBytes}
+use Rattle.rules.specs.Samples.{D, minute, _but_, byte, half, word, direction, mark, identifier, stamp, created, levelled, plannedStop, begunStop, slotOf, entryBytes}
 use Rattle.rules.specs.Boundaries.Tests.{entryW, entryM, entryZ, entryA, rosterB, unitW, unitM, row, lastStamp, positive, negative, forced, offGridAt, held}
-use Rattle.rules.specs.Boundaries.Form.{lastTime, noTime, stepped}
+use Rattle.rules.specs.Boundaries.Form.{lastTime, noTime, stepped, minutes}
 
 abbrev pub good : List ℕ → Bool
 good entry = entryGood entry
@@ -233,25 +233,33 @@ pairs =
     ∷ not (apart (begunStop 1 5 30) (begunStop 1 6 30))
     ∷ []
 
--- 1. "A free slot is 888 zeros."; "38 zero; from 88 k pairs .., then zeros"
+-- a slot of 90 parts, which leaves 80 zeros
+abbrev pub full : List ℕ
+full = slotOf (created positiveDerating 0 90 (minutes 90))
+
+abbrev pub broken : List ℕ → Bool
+broken z = not (slotWhole W1 (minute 10) z)
+
+-- 1. "A free slot is 888 zeros."; "38 zero; from 88 k pairs .., then zeros"; one that is whole stands in the register below
 abbrev pub slots : List Bool
 slots =
-    not (slotWhole W1 (minute 10) (derating but byte 38 1))
-    ∷ not (slotWhole W1 (minute 10) (derating but byte 87 1))
-    ∷ not (slotWhole W1 (minute 10) (derating but byte 96 1))
-    ∷ not (slotWhole W1 (minute 10) (derating but byte 887 1))
-    ∷ not (slotWhole W1 (minute 10) (zeros 888 but byte 887 1))
-    ∷ not (slotWhole W1 (minute 10) (zeros 888 but byte 0 0x5A))
-    ∷ not (slotWhole W1 (minute 10) (zeros 888 but byte 1 0x47))
-    ∷ not (slotWhole W1 (minute 10) (zeros 888 but byte 2 1))
+    broken (full but byte 38 1)
+    ∷ broken (full but byte 87 1)
+    ∷ broken (full but byte 808 1)
+    ∷ broken (full but byte 887 1)
+    ∷ broken (full but half 6 0)
+    ∷ broken (zeros 888 but byte 0 0x5A)
+    ∷ broken (zeros 888 but byte 1 0x47)
+    ∷ broken (zeros 888 but byte 2 1)
+    ∷ broken (zeros 888 but byte 887 1)
     ∷ []
 
--- a register of one unit: a derating in slot 0, and in slots 6 and 7 the ones given
-abbrev pub register : List ℕ → List ℕ → List ℕ
-register six seven = unitW ++ derating ++ zeros 4440 ++ six ++ seven
+-- a register of one unit: a derating in slot 0, and the others given
+abbrev pub register : List ℕ → List ℕ
+register others = unitW ++ derating ++ others
 
 abbrev pub sound : List ℕ
-sound = register (held (negative 20000)) (slotOf (plannedStop 1 15 30 but identifier 3))
+sound = register (zeros 5328 ++ held (negative 20000))
 
 -- 1. "Is the register whole: 1 to 64 blocks, layout"; "block i for unit i"
 abbrev pub blocks : List Bool
@@ -259,6 +267,7 @@ blocks =
     registerWhole sound
     ∷ not (registerWhole (part sound 0 7167))
     ∷ not (registerWhole (sound ++ (0 ∷ [])))
+    ∷ not (blockWhole 1 (part sound 0 7167))
     ∷ not (registerWhole (sound but byte 0 0))
     ∷ not (registerWhole (sound but byte 1 0))
     ∷ not (registerWhole (sound but half 2 0))
@@ -268,9 +277,9 @@ blocks =
     ∷ not (registerWhole (sound but byte 36 1))
     ∷ not (registerWhole (sound but byte 63 1))
     ∷ not (registerWhole (sound but half 4 0))
-    ∷ not (registerWhole (sound but half 70 0))
-    ∷ not (registerWhole (sound but half 6286 0))
-    ∷ not (registerWhole (register (held (negative 20000)) (slotOf (negative 20000 but identifier 3))))
-    ∷ not (registerWhole (register (held (negative 20000)) (slotOf (plannedStop 1 15 30))))
-    ∷ not (blockWhole 1 (part sound 0 7167))
+    -- the first slot, the last one; slots 0 and 7, slots 0 and 1
+    ∷ not (registerWhole (sound but byte 102 1))
+    ∷ not (registerWhole (sound but byte 6318 1))
+    ∷ not (registerWhole (register (zeros 5328 ++ slotOf (negative 20000))))
+    ∷ not (registerWhole (register (held (positive 20000) ++ zeros 5328)))
     ∷ []
