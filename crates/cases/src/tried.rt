@@ -3,7 +3,9 @@ use crate::sent::Sent;
 use libc::STDOUT_FILENO;
 use rules::Answer;
 ghost use mathlib.Core.Path.{_≡_};
-ghost use lib.ListN.{length};
+ghost use lib.ListN.{length, take};
+ghost use Rattle.rules.specs.Desk.{answerTo};
+ghost use Rattle.cases.specs.Sent.{lengthSent};
 
 pub(crate) fn say(words: &[u8]) {
     io::write_all(STDOUT_FILENO, words);
@@ -33,8 +35,11 @@ pub(crate) fn fresh(register: &mut [u8]) {
     setup::set_up(&roster, register);
 }
 
+// The desk's answer to the bytes that are then in the report.
 pub(crate) fn answer(register: &mut [u8], report: &mut [u8], s: Sent) -> Answer
     requires { ⌜ length (now report) ≡ 1850 ⌝ }
+    ensures { λ r. ⌜ r ≡ answerTo (now (register .entry)) (take (lengthSent s) (now (report .exit))) .answer ⌝ }
+    ensures { λ _. ⌜ now (register .exit) ≡ answerTo (now (register .entry)) (take (lengthSent s) (now (report .exit))) .after ⌝ }
 {
     let end = crate::sent::compose(report, s);
     desk::answer_report(register, &report[..end])
@@ -43,6 +48,7 @@ pub(crate) fn answer(register: &mut [u8], report: &mut [u8], s: Sent) -> Answer
 // A report after those before it.
 pub(crate) fn then(register: &mut [u8], report: &mut [u8], s: Sent, words: &[u8])
     requires { ⌜ length (now report) ≡ 1850 ⌝ }
+    ensures { λ _. ⌜ now (register .exit) ≡ answerTo (now (register .entry)) (take (lengthSent s) (now (report .exit))) .after ⌝ }
 {
     say(words);
     say_answer(answer(register, report, s));

@@ -5,6 +5,11 @@ use borrow.Author.Needs.{needs}
 use Rattle.cases.proofs.tried.answer.Statement.{statement}
 use Rattle.cases.proofs.tried.answer.Tie as tie
 
+returns : tie.Need-returns
+returns c =
+    let composed = c .before .before .before .before .before .before .before in
+    rw (sym (composed .compose .ensures .1)) (c .before .before .answer-report .ensures)
+
 pub answer-spec : {M : Type 1} → statement M
 answer-spec =
     tie.close
@@ -15,4 +20,4 @@ answer-spec =
     (λ c κs. search needs)
     (λ c. search needs)
     (λ c. search needs)
-    (λ c. search needs))
+    returns)
