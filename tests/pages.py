@@ -65,9 +65,9 @@ def claims_are_there():
 
 def cited_by(path):
     """The definitions that a file brings in: crate and file, or the line itself where it is no file of specs/."""
-    for line in re.findall(r"^(?:ghost )?use (Rattle·[^{;]*)", text_of(path), re.MULTILINE):
-        found = re.fullmatch(r"Rattle·(\w+)(?:·specs)?\.specs\.(declared|\w+)\..*", line)
-        yield found.groups() if found else (line, "")
+    for line in re.findall(r"^(?:ghost )?use (Rattle·[^{;\n]*)", text_of(path), re.MULTILINE):
+        found = re.fullmatch(r"Rattle·(\w+)(?:·specs)?\.specs\.(declared|Boundaries\.[A-Z]\w+|\w+)(?:\.| as ).*", line)
+        yield (found[1], found[2].replace(".", "/")) if found else (line, "")
 
 
 def beliefs_are_named():
