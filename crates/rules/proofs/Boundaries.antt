@@ -78,9 +78,9 @@ form-kinds : failing 1 form.kinds ≡ []
 unfolding computed failing sameBytes
 form-kinds = refl
 
-form-honest : failing 1 form.honest ≡ []
+form-consistentTimes : failing 1 form.consistentTimes ≡ []
 unfolding computed failing sameBytes
-form-honest = refl
+form-consistentTimes = refl
 
 form-quarters : failing 1 form.quarters ≡ []
 unfolding computed failing sameBytes
@@ -208,7 +208,7 @@ boundaries-hold = record {
   form-ranges = form-ranges;
   form-times = form-times;
   form-kinds = form-kinds;
-  form-honest = form-honest;
+  form-consistentTimes = form-consistentTimes;
   form-quarters = form-quarters;
   form-cover = form-cover;
   form-powers = form-powers;

@@ -45,7 +45,7 @@ pub record BoundariesHold : Type 0 where
   pub form-ranges : failing 1 form.ranges ≡ []
   pub form-times : failing 1 form.times ≡ []
   pub form-kinds : failing 1 form.kinds ≡ []
-  pub form-honest : failing 1 form.honest ≡ []
+  pub form-consistentTimes : failing 1 form.consistentTimes ≡ []
   pub form-quarters : failing 1 form.quarters ≡ []
   pub form-cover : failing 1 form.cover ≡ []
   pub form-powers : failing 1 form.powers ≡ []

@@ -133,8 +133,8 @@ kinds =
     ∷ []
 
 -- 6. "Are the times honest?"
-abbrev pub honest : List Bool
-honest =
+abbrev pub consistentTimes : List Bool
+consistentTimes =
     -- "Types 1–5: start < end, end > stamp"
     gives 6 unitW (plannedStop 1 30 30)
     ∷ gives 6 unitW (plannedStop 1 45 30)
