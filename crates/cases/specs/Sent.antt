@@ -2,7 +2,7 @@
 use Prim.Native.Nat.{ℕ, _+_, _*_}
 use lib.Dec.{eqb}
 use Rattle.fields.specs.Lists.{pick}
-use Rattle.rules.specs.Cases.{D}
+use Rattle.rules.specs.Samples.{D}
 use Rattle.rules.specs.Codes.{stop, positiveDerating, forcedWork, event, isLevelled, planned, executed}
 use Rattle.cases.specs.declared.sent.Sent.{Sent}
 

@@ -31,7 +31,11 @@ use Rattle.judge.specs.Decided.{writtenBy, refusedDecision, numberAfter,
 use Rattle.judge.proofs.Joins.{records-same}
 
 -- questions 15 to 19 from what the code computes
-module _ (b s : List ℕ) (h : Head) (unit : UnitHead) (slot : ℕ) (changes deratings : Bool) {survey : Survey} (asked-slots : survey ≡ surveyOf b h slot changes) {free : ℕ} (lowest : free ≡ freeAmong (survey .stays)) {minutes moves : Bool} (swept : minutes ≡ question17 (unit .kind) (unit .powers) (sweptRecords b s (survey .others) true) h) (stepped : moves ≡ hasTransition (unit .row) h) {n : ℕ} (asked : n ≡ limitNumber h (survey .closed) deratings minutes (not changes || moves) (not (creationHead h) || ltb free slotCount) 0) where
+module _ (b s : List ℕ) (h : Head) (unit : UnitHead) (slot : ℕ) (changes deratings : Bool) {survey : Survey}
+    (asked-slots : survey ≡ surveyOf b h slot changes) {free : ℕ} (lowest : free ≡ freeAmong (survey .stays))
+    {minutes moves : Bool} (swept : minutes ≡ question17 (unit .kind) (unit .powers) (sweptRecords b s (survey .others) true) h)
+    (stepped : moves ≡ hasTransition (unit .row) h) {n : ℕ} (asked : n ≡ limitNumber h (survey .closed) deratings minutes
+    (not changes || moves) (not (creationHead h) || ltb free slotCount) 0) where
   number-is : n ≡ numberAfter b s h unit changes deratings (surveyOf b h slot changes)
   number-is = asked ∙ rw (swept, stepped, lowest, asked-slots)
 
@@ -39,12 +43,16 @@ module _ (b s : List ℕ) (h : Head) (unit : UnitHead) (slot : ℕ) (changes der
   unfolding decidedBy pick
   limits-refuse ne e = e ∙ rw (← number-is, ne-eqb n 0 ne)
 
-  pub limits-accept : {w : ℕ} {left : Bool} → (n ≡ 0) → w ≡ writtenBy h slot free → left ≡ someOf (survey .leaves) → record { number = 0; keep = survey .stays; written = w; changes = changes; left = left } ≡ limitsDecided b s h unit slot changes deratings
+  pub limits-accept : {w : ℕ} {left : Bool} → (n ≡ 0) → w ≡ writtenBy h slot free → left ≡ someOf (survey .leaves)
+      → record
+      { number = 0; keep = survey .stays; written = w; changes = changes; left = left } ≡ limitsDecided b s h unit slot changes
+      deratings
   unfolding decidedBy pick
   limits-accept z w l = rw (← number-is, eq-eqb n 0 z, w, l, lowest, asked-slots)
 
 -- a stage that is passed leads on, one that is not is the answer
-step : (n : ℕ) (q : Bool) (next y : ℕ) {x : ℕ} → x ≡ pick (eqb y 0) next y → pick q x (suc n) ≡ pick (eqb (pick q y (suc n)) 0) next (pick q y (suc n))
+step : (n : ℕ) (q : Bool) (next y : ℕ) {x : ℕ} → x ≡ pick (eqb y 0) next y
+    → pick q x (suc n) ≡ pick (eqb (pick q y (suc n)) 0) next (pick q y (suc n))
 unfolding pick
 step n true next y e = e
 step n false next y e = rw (ne-eqb (suc n) 0 (λ q. omega arith))
@@ -53,14 +61,17 @@ stop-here : (next : ℕ) → next ≡ pick (eqb 0 0) next 0
 unfolding pick
 stop-here next = refl
 
-validation-next : (kind : ℕ) (h : Head) (ps : List Part) (next : ℕ) → validationNumber kind h ps next ≡ pick (eqb (validationNumber kind h ps 0) 0) next (validationNumber kind h ps 0)
+validation-next : (kind : ℕ) (h : Head) (ps : List Part) (next : ℕ)
+    → validationNumber kind h ps next ≡ pick (eqb (validationNumber kind h ps 0) 0) next (validationNumber kind h ps 0)
 unfolding validationNumber
 validation-next kind h ps next =
     step 3 _ next _ (step 4 _ next _ (step 5 _ next _ (step 6 _ next _ (step 7 _ next _ (step 8 _ next _ (stop-here next))))))
 
-held-next : (last : Minute) (h : Head) (slot : ℕ) (held : Record) (next : ℕ) → heldNumber last h slot held next ≡ pick (eqb (heldNumber last h slot held 0) 0) next (heldNumber last h slot held 0)
+held-next : (last : Minute) (h : Head) (slot : ℕ) (held : Record) (next : ℕ)
+    → heldNumber last h slot held next ≡ pick (eqb (heldNumber last h slot held 0) 0) next (heldNumber last h slot held 0)
 unfolding heldNumber
-held-next last h slot held next = step 9 _ next _ (step 10 _ next _ (step 11 _ next _ (step 12 _ next _ (step 13 _ next _ (stop-here next)))))
+held-next last h slot held next = step 9 _ next _ (step 10 _ next _ (step 11 _ next _ (step 12 _ next _ (step 13 _ next _
+    (stop-here next)))))
 
 -- the slots of the block and the report
 module _ (b s : List ℕ) where
@@ -72,7 +83,8 @@ module _ (b s : List ℕ) where
   seek-same p q i zero h = refl
   seek-same p q i (suc n) h = rw (h i (omega arith), seek-same p q (i + 1) n (λ j l. h j (omega arith)))
 
-  all-same : (p q : ℕ → Bool) (i n : ℕ) → ((j : ℕ) → j < i + n → p j ≡ q j) → all p (series (λ j. j) i n) ≡ all q (series (λ j. j) i n)
+  all-same : (p q : ℕ → Bool) (i n : ℕ) → ((j : ℕ) → j < i + n → p j ≡ q j)
+      → all p (series (λ j. j) i n) ≡ all q (series (λ j. j) i n)
   unfolding all series
   all-same p q i zero h = refl
   all-same p q i (suc n) h = rw (h i (omega arith), all-same p q (i + 1) n (λ j l. h j (omega arith)))
@@ -96,14 +108,16 @@ module _ (b s : List ℕ) where
 
   swept-is : sweptRecords b s (series (other b s) 0 slotCount) true ≡ reportedRecords b s
   unfolding sweptRecords reportedRecords pick
-  swept-is = ap (λ (ws : List FullRecord). reportRecord s ∷ ws) (records-same b _ (other b s) 0 8 (λ j x y. flag-at (other b s) j (omega arith)))
+  swept-is = ap (λ (ws : List FullRecord). reportRecord s ∷ ws) (records-same b _ (other b s) 0 8 (λ j x y. flag-at (other b s) j
+      (omega arith)))
 
   written-is : writtenBy (headOf s) (holder b s) (freeSlot b s) ≡ slotWritten b s
   unfolding writtenBy slotWritten
   written-is = refl
 
   abbrev limits : ℕ
-  limits = numberAfter b s (headOf s) (unitHead b) (changesState b s) (question16 (unitHead b .powers) (headOf s) (partsOf s)) (surveyOf b (headOf s) (holder b s) (changesState b s))
+  limits = numberAfter b s (headOf s) (unitHead b) (changesState b s) (question16 (unitHead b .powers) (headOf s) (partsOf s))
+      (surveyOf b (headOf s) (holder b s) (changesState b s))
 
   abbrev validation : ℕ
   validation = validationNumber (unitHead b .kind) (headOf s) (partsOf s) 0
@@ -122,7 +136,9 @@ module _ (b s : List ℕ) where
   unfolding decisionOf pick
   refuses-with {n} e ne = rw (e, ne-eqb n 0 ne)
 
-  decides-with : refusalNumber b s ≡ limits → limitsDecided b s (headOf s) (unitHead b) (holder b s) (changesState b s) (question16 (unitHead b .powers) (headOf s) (partsOf s)) ≡ decisionOf b s
+  decides-with : refusalNumber b s ≡ limits
+      → limitsDecided b s (headOf s) (unitHead b) (holder b s) (changesState b s) (question16 (unitHead b .powers) (headOf s)
+      (partsOf s)) ≡ decisionOf b s
   unfolding decidedBy decisionOf
   decides-with e = rw (e, surveyed, lowest-is, left-is, written-is)
 
@@ -131,7 +147,8 @@ module _ (b s : List ℕ) where
   changes-is = refl
 
   -- what the code hands from one stage to the next
-  module _ {h : Head} (head : h ≡ headOf s) {unit : UnitHead} (read : unit ≡ unitHead b) {v : Validated} (asked-first : v ≡ validatedOf unit h (partsOf s)) where
+  module _ {h : Head} (head : h ≡ headOf s) {unit : UnitHead} (read : unit ≡ unitHead b) {v : Validated}
+      (asked-first : v ≡ validatedOf unit h (partsOf s)) where
     first : v .number ≡ validation
     first = ap (λ (v : Validated). v .number) asked-first ∙ rw (read, head)
 
@@ -139,7 +156,8 @@ module _ (b s : List ℕ) where
     unfolding pick
     stops-at-validation ne e = e ∙ refuses-with (number-by ∙ rw (← first, ne-eqb (v .number) 0 ne)) ne
 
-    module _ (passed : v .number ≡ 0) {r x : Record} {slot n : ℕ} (own : r ≡ recordBy h) (found : slot ≡ holderOf b r) (there : x ≡ recordAt b slot) (asked-next : n ≡ heldNumber (unit .«last_stamp») h slot x 0) where
+    module _ (passed : v .number ≡ 0) {r x : Record} {slot n : ℕ} (own : r ≡ recordBy h) (found : slot ≡ holderOf b r)
+        (there : x ≡ recordAt b slot) (asked-next : n ≡ heldNumber (unit .«last_stamp») h slot x 0) where
       slot-is : slot ≡ holder b s
       unfolding holderOf holder
       slot-is = found ∙ rw (own, head)
@@ -151,9 +169,17 @@ module _ (b s : List ℕ) where
       unfolding pick
       stops-at-holder ne e = e ∙ refuses-with (number-by ∙ rw (← first, eq-eqb (v .number) 0 passed, ← second, ne-eqb n 0 ne)) ne
 
-      pub decides : {d : Decision} {changes : Bool} → n ≡ 0 → changes ≡ changesBy (unit .kind) h x → d ≡ limitsDecided b s h unit slot changes (v .deratings) → d ≡ decisionOf b s
+      pub decides : {d : Decision} {changes : Bool} → n ≡ 0 → changes ≡ changesBy (unit .kind) h x
+          → d ≡ limitsDecided b s h unit slot changes (v .deratings) → d ≡ decisionOf b s
       unfolding pick question16
       decides {d} {changes} z c e =
           let state : changes ≡ changesState b s = c ∙ rw (there, slot-is, read, head) changes-is in
-          let deratings : v .deratings ≡ question16 (unitHead b .powers) (headOf s) (partsOf s) = ap (λ (v : Validated). v .deratings) asked-first ∙ rw (read, head) in
-          e ∙ rw (state, deratings, slot-is, read, head) (decides-with (number-by ∙ rw (← first, eq-eqb (v .number) 0 passed, ← second, eq-eqb n 0 z)))
+          let deratings : v .deratings ≡ question16 (unitHead b .powers) (headOf s) (partsOf s) = ap (λ
+          (v : Validated). v .deratings) asked-first ∙ rw (read, head) in
+          e ∙ rw (state, deratings, slot-is, read, head) (decides-with (number-by ∙ rw (
+            ← first,
+            eq-eqb
+                (v .number) 0 passed,
+            ← second,
+            eq-eqb n 0 z,
+          )))

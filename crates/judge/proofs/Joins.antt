@@ -38,15 +38,18 @@ module _ (b : List ℕ) (i : ℕ) {z : List ℕ} {u : Bool} (read : z ≡ slotAt
   unfolding live
   none-held r n = rw (not-used n)
 
-  pub some-held : (r : Record) {x : Record} {t : Bool} → not u ≡ false → x ≡ recordIn z → t ≡ sameIdentifier r x → (ltb (r .stamp .0) (x .period .end .0) && t) ≡ (live b (r .stamp .0) i && sameIdentifier r (recordAt b i))
+  pub some-held : (r : Record) {x : Record} {t : Bool} → not u ≡ false → x ≡ recordIn z → t ≡ sameIdentifier r x
+      → (ltb (r .stamp .0) (x .period .end .0) && t) ≡ (live b (r .stamp .0) i && sameIdentifier r (recordAt b i))
   unfolding live
   some-held r n e q = rw (q, e, read, is-used n)
 
-  pub free-answers : (h : Head) (slot : ℕ) (changes : Bool) → not u ≡ true → record { other = false; closed = true; leaves = false; stays = false } ≡ answersAt b h slot changes i
+  pub free-answers : (h : Head) (slot : ℕ) (changes : Bool) → not u ≡ true
+      → record { other = false; closed = true; leaves = false; stays = false } ≡ answersAt b h slot changes i
   unfolding answersAt slotAnswers live
   free-answers h slot changes n = rw (not-used n)
 
-  pub used-answers : (h : Head) (slot : ℕ) (changes : Bool) {x : Record} {a : SlotAnswers} → not u ≡ false → x ≡ recordIn z → a ≡ slotAnswers h slot changes (ltb (h .stamp .0) (x .period .end .0)) x i → a ≡ answersAt b h slot changes i
+  pub used-answers : (h : Head) (slot : ℕ) (changes : Bool) {x : Record} {a : SlotAnswers} → not u ≡ false → x ≡ recordIn z
+      → a ≡ slotAnswers h slot changes (ltb (h .stamp .0) (x .period .end .0)) x i → a ≡ answersAt b h slot changes i
   unfolding answersAt live
   used-answers h slot changes n e a = a ∙ rw (e, read, is-used n)
 
@@ -115,7 +118,9 @@ module _ (b : List ℕ) (h : Head) (slot : ℕ) (changes : Bool) where
       let none : (f : ℕ → Bool) → Filled f (replicate 8 false) 0 = λ f. record { size = refl; so-far = filled-none f 0 } in
       record { most = omega arith; counted = none _; tested = tested-none; left = none _; kept = none _ }
 
-  pub surveyed-more : {others leaves stays : List Bool} {closed : Bool} {i : ℕ} {a : SlotAnswers} → Surveyed others closed leaves stays i → i < 8 → a ≡ answer i → Surveyed (set others i (a .other)) (closed && a .closed) (set leaves i (a .leaves)) (set stays i (a .stays)) (i + 1)
+  pub surveyed-more : {others leaves stays : List Bool} {closed : Bool} {i : ℕ} {a : SlotAnswers}
+      → Surveyed others closed leaves stays i → i < 8 → a ≡ answer i
+      → Surveyed (set others i (a .other)) (closed && a .closed) (set leaves i (a .leaves)) (set stays i (a .stays)) (i + 1)
   surveyed-more k l e = record {
     most = omega arith;
     counted = flag-more (k .counted) l (ap (λ (a : SlotAnswers). a .other) e);
@@ -124,7 +129,8 @@ module _ (b : List ℕ) (h : Head) (slot : ℕ) (changes : Bool) where
     kept = flag-more (k .kept) l (ap (λ (a : SlotAnswers). a .stays) e);
   }
 
-  pub surveyed-all : {others leaves stays : List Bool} {closed : Bool} {i : ℕ} → Surveyed others closed leaves stays i → 8 ≤ i → record { others = others; closed = closed; leaves = leaves; stays = stays } ≡ surveyOf b h slot changes
+  pub surveyed-all : {others leaves stays : List Bool} {closed : Bool} {i : ℕ} → Surveyed others closed leaves stays i → 8 ≤ i
+      → record { others = others; closed = closed; leaves = leaves; stays = stays } ≡ surveyOf b h slot changes
   unfolding surveyOf
   surveyed-all {others} {leaves} {stays} {closed} {i} k l =
       let most = k .most in
@@ -137,12 +143,15 @@ module _ (h : Head) (unit : UnitHead) (ws : List FullRecord) {t : Bool} (asked :
   unfolding question17
   minutes-skipped n = rw (sym asked ∙ not-true t n)
 
-  pub minutes-swept : {r : PowerRange} {g : SweepResult} → not t ≡ false → r ≡ rangeOf (unit .powers) (h .direction) → g ≡ sweepResult (unit .kind) r ws (h .direction) (h .period .start .0) (h .period .end .0) → g .fits ≡ question17 (unit .kind) (unit .powers) ws h
+  pub minutes-swept : {r : PowerRange} {g : SweepResult} → not t ≡ false → r ≡ rangeOf (unit .powers) (h .direction)
+      → g ≡ sweepResult (unit .kind) r ws (h .direction) (h .period .start .0) (h .period .end .0)
+      → g .fits ≡ question17 (unit .kind) (unit .powers) ws h
   unfolding question17 sweepResult
   minutes-swept n q p = ap (λ (g : SweepResult). g .fits) p ∙ rw (q, sym asked ∙ not-false t n)
 
 -- the slots that are marked are those that pass the test
-pub records-same : (b : List ℕ) (p q : ℕ → Bool) (i n : ℕ) → ((j : ℕ) → i ≤ j → j < i + n → p j ≡ q j) → recordsAmong b p i n ≡ recordsAmong b q i n
+pub records-same : (b : List ℕ) (p q : ℕ → Bool) (i n : ℕ) → ((j : ℕ) → i ≤ j → j < i + n → p j ≡ q j)
+    → recordsAmong b p i n ≡ recordsAmong b q i n
 unfolding recordsAmong
 records-same b p q i zero h = refl
 records-same b p q i (suc n) h =

@@ -28,10 +28,13 @@ use Rattle.levels.specs.Within.{levelWarnings}
 use Rattle.judge.specs.Warned.{overlapAt, minuteWarnings, warningsOn}
 use Rattle.judge.proofs.Joins.{records-same}
 
-pub overlap-join : (after : List ℕ) (r : Record) (i : ℕ) {z : List ℕ} {x : Record} {u o m p : Bool} → z ≡ slotAt after i → x ≡ recordIn z → u ≡ used z → o ≡ oneStopOneLevelled r x → m ≡ meet (r .direction) (x .direction) → p ≡ overlap (r .period) (x .period) → (u && o && m && p) ≡ overlapAt after r i
+pub overlap-join : (after : List ℕ) (r : Record) (i : ℕ) {z : List ℕ} {x : Record} {u o m p : Bool} → z ≡ slotAt after i
+    → x ≡ recordIn z → u ≡ used z → o ≡ oneStopOneLevelled r x → m ≡ meet (r .direction) (x .direction)
+    → p ≡ overlap (r .period) (x .period) → (u && o && m && p) ≡ overlapAt after r i
 overlap-join after r i e f a b c d = rw (a, b, c, d, f, e)
 
-pub warns-join : (after : List ℕ) (h : Head) {r : Record} {none : Bool} → r ≡ recordBy h → none ≡ all (λ i. not (overlapAt after r i)) (series (λ i. i) 0 8) → not none ≡ warnsOverlap after h
+pub warns-join : (after : List ℕ) (h : Head) {r : Record} {none : Bool} → r ≡ recordBy h
+    → none ≡ all (λ i. not (overlapAt after r i)) (series (λ i. i) 0 8) → not none ≡ warnsOverlap after h
 unfolding warnsOverlap someSlot
 warns-join after h e p = ap not p ∙ rw e
 
@@ -42,12 +45,17 @@ block-counted b =
     (λ j x y. series-at (λ i. used (slotAt b i)) 0 8 j false (omega arith) ∙ ap (λ (k : ℕ). used (slotAt b k)) (zero-add j))
 
 module _ (after : List ℕ) (h : Head) where
-  pub minutes-warn : {counted : List Bool} {u : UnitHead} {r : PowerRange} {g : LevelWarnings} {x y : ℕ} → h .«record_type» ≡ 4 → counted ≡ series (λ i. used (slotAt after i)) 0 8 → u ≡ unitHead after → r ≡ rangeOf (u .powers) (h .direction) → g ≡ levelWarnings (u .kind) r (countedRecords after counted) (h .direction) (h .period .start .0) (h .period .end .0) → x ≡ worth 2 (g .above) → y ≡ worth 4 (g .below) → x + y ≡ minuteWarnings after h
+  pub minutes-warn : {counted : List Bool} {u : UnitHead} {r : PowerRange} {g : LevelWarnings} {x y : ℕ} → h .«record_type» ≡ 4
+      → counted ≡ series (λ i. used (slotAt after i)) 0 8 → u ≡ unitHead after → r ≡ rangeOf (u .powers) (h .direction)
+      → g ≡ levelWarnings (u .kind) r (countedRecords after counted) (h .direction) (h .period .start .0) (h .period .end .0)
+      → x ≡ worth 2 (g .above) → y ≡ worth 4 (g .below) → x + y ≡ minuteWarnings after h
   unfolding warnsMinute levelWarnings
   minutes-warn {counted} {u} {r} {g} {x} {y} t c f q p a b =
       let forced = eq-eqb (h .«record_type») 4 t in
-      let above : g .above ≡ warnsMinute aboveMax after h = ap (λ (g : LevelWarnings). g .above) p ∙ rw (forced, c, block-counted after, q, f) in
-      let below : g .below ≡ warnsMinute belowMin after h = ap (λ (g : LevelWarnings). g .below) p ∙ rw (forced, c, block-counted after, q, f) in
+      let above : g .above ≡ warnsMinute aboveMax after h = ap (λ (g : LevelWarnings). g .above) p ∙ rw
+      (forced, c, block-counted after, q, f) in
+      let below : g .below ≡ warnsMinute belowMin after h = ap (λ (g : LevelWarnings). g .below) p ∙ rw
+      (forced, c, block-counted after, q, f) in
       rw (a, b, above, below)
 
   pub minutes-silent : (h .«record_type» ≡ 4 → ⊥) → 0 ≡ minuteWarnings after h
@@ -58,7 +66,9 @@ module _ (after : List ℕ) (h : Head) where
   unfolding warningsOn pick
   no-warnings left t = rw t
 
-  pub all-warnings : (left : Bool) {x y z : ℕ} → (eqb (h .«record_type») 6 || eqb (h .operation) 3) ≡ false → x ≡ worth 1 (warnsOverlap after h) → y ≡ worth 8 (eqb (h .«record_type») 1 && left) → z ≡ minuteWarnings after h → x + z + y ≡ warningsOn after h left
+  pub all-warnings : (left : Bool) {x y z : ℕ} → (eqb (h .«record_type») 6 || eqb (h .operation) 3) ≡ false
+      → x ≡ worth 1 (warnsOverlap after h) → y ≡ worth 8 (eqb (h .«record_type») 1 && left) → z ≡ minuteWarnings after h
+      → x + z + y ≡ warningsOn after h left
   unfolding warningsOn pick
   all-warnings left t a b c = rw (a, b, c, t)
 

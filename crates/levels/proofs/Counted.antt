@@ -34,7 +34,8 @@ unfolding levelIn levelAmongPairs series pairOf pick
 report-pairs s i zero m = refl
 report-pairs s i (suc n) m = rw (report-pairs s (i + 1) n m)
 
-slot-pairs : (z : List ℕ) (i n m : ℕ) (start : Minute) → levelIn (pairsFrom z (88 + 8 * i) n start) m ≡ levelAmongPairs (series (pairOf z false) i n) m
+slot-pairs : (z : List ℕ) (i n m : ℕ) (start : Minute)
+    → levelIn (pairsFrom z (88 + 8 * i) n start) m ≡ levelAmongPairs (series (pairOf z false) i n) m
 unfolding levelIn levelAmongPairs series pairOf pairsFrom pick
 slot-pairs z i zero m start = refl
 slot-pairs z i (suc n) m start =
@@ -42,7 +43,9 @@ slot-pairs z i (suc n) m start =
     rw (a, slot-pairs z (i + 1) n m)
 
 -- the lane of a record that counts, where its direction is asked
-lane-level : (t : Bool) (r : Record) (ps : List Part) (f : ℕ → Pair) (k type direction m : ℕ) → eqb (r .direction) direction ≡ t → levelIn ps m ≡ levelAmongPairs (series f 0 k) m → laneLevel (laneOf t r k) f type m ≡ levelOf (record { fields = r; parts = ps }) type direction m
+lane-level : (t : Bool) (r : Record) (ps : List Part) (f : ℕ → Pair) (k type direction m : ℕ) → eqb (r .direction) direction ≡ t
+    → levelIn ps m ≡ levelAmongPairs (series f 0 k) m
+    → laneLevel (laneOf t r k) f type m ≡ levelOf (record { fields = r; parts = ps }) type direction m
 unfolding laneLevel laneOf levelOf pick
 lane-level true r ps f k type direction m e p = rw (e, and-true, p)
 lane-level false r ps f k type direction m e p = rw (e, and-false, le-ltb m 0 (omega arith), and-false)
@@ -53,7 +56,8 @@ module _ (b : List ℕ) (i : ℕ) (t : Bool) (direction : ℕ) {l : Lane} where
   unfolding slotLane laneOf pick
   slot-uncounted n e = e ∙ sym (ap (λ (t : Bool). slotLane b i t direction) (not-true t n))
 
-  pub slot-counted : {z : List ℕ} {r : Record} {k : ℕ} → not t ≡ false → z ≡ slotAt b i → r ≡ recordIn z → k ≡ storedCount z → l ≡ laneOf (eqb (r .direction) direction) r k → l ≡ slotLane b i t direction
+  pub slot-counted : {z : List ℕ} {r : Record} {k : ℕ} → not t ≡ false → z ≡ slotAt b i → r ≡ recordIn z → k ≡ storedCount z
+      → l ≡ laneOf (eqb (r .direction) direction) r k → l ≡ slotLane b i t direction
   unfolding slotLane
   slot-counted n z r k e = e ∙ rw (k, r, z) (sym (ap (λ (t : Bool). slotLane b i t direction) (not-false t n)))
 
@@ -62,7 +66,8 @@ module _ (s : List ℕ) (t : Bool) (direction : ℕ) {l : Lane} where
   unfolding reportLane laneOf pick
   report-uncounted n e = e ∙ sym (ap (λ (t : Bool). reportLane s t direction) (not-true t n))
 
-  pub report-counted : {h : Head} {r : Record} → not t ≡ false → h ≡ headOf s → r ≡ recordBy h → l ≡ laneOf (eqb (r .direction) direction) r (h .«part_count») → l ≡ reportLane s t direction
+  pub report-counted : {h : Head} {r : Record} → not t ≡ false → h ≡ headOf s → r ≡ recordBy h
+      → l ≡ laneOf (eqb (r .direction) direction) r (h .«part_count») → l ≡ reportLane s t direction
   unfolding reportLane
   report-counted n h r e = e ∙ rw (r, h) (sym (ap (λ (t : Bool). reportLane s t direction) (not-false t n)))
 
@@ -97,24 +102,36 @@ module _ (b s : List ℕ) (swept : Swept) (type direction m : ℕ) where
       rest : List FullRecord
       rest = recordsAmong b counts (i + 1) n
 
-      by-case : (t : Bool) → orElse (laneLevel (slotLane b i t direction) (pairOf (slotAt b i) false) type m) (levelAmong rest type direction m) ≡ levelAmong (pick t (record { fields = recordAt b i; parts = partsIn (slotAt b i) } ∷ rest) rest) type direction m
+      by-case : (t : Bool) → orElse (laneLevel (slotLane b i t direction) (pairOf (slotAt b i) false) type m)
+          (levelAmong rest type direction m) ≡ levelAmong (pick t (record {
+            fields = recordAt b i;
+            parts = partsIn
+                (slotAt b i);
+          } ∷ rest) rest) type direction m
       by-case true =
           ap (λ (v : Level). orElse v (levelAmong rest type direction m))
-          (lane-level (eqb (recordAt b i .direction) direction) (recordAt b i) (partsIn (slotAt b i)) _ (storedCount (slotAt b i)) type direction m refl
+          (lane-level (eqb (recordAt b i .direction) direction) (recordAt b i) (partsIn (slotAt b i)) _ (storedCount
+          (slotAt b i)) type direction m refl
           (slot-pairs (slotAt b i) 0 (storedCount (slotAt b i)) m (recordAt b i .period .start)))
-      by-case false = ap (λ (v : Level). orElse v (levelAmong rest type direction m)) (lane-silent (recordAt b i) _ (storedCount (slotAt b i)) type m)
+      by-case false = ap (λ (v : Level). orElse v (levelAmong rest type direction m)) (lane-silent (recordAt b i) _ (storedCount
+          (slotAt b i)) type m)
 
-  pub lanes-level : levelAmongLanes b s lane type 0 9 m ≡ levelAmong (sweptRecords b s (swept .counted) (swept .«with_report»)) type direction m
+  pub lanes-level : levelAmongLanes b s lane type 0 9 m ≡ levelAmong (sweptRecords b s (swept .counted)
+      (swept .«with_report»)) type direction m
   unfolding levelAmongLanes levelAmong sweptRecords laneAt reportLane laneBytes pick
   lanes-level = rw (slots-lanes 0 8) (by-case (swept .«with_report»)) where
     slots : List FullRecord
     slots = recordsAmong b counts 0 8
 
-    by-case : (t : Bool) → orElse (laneLevel (reportLane s t direction) (pairOf s true) type m) (levelAmong slots type direction m) ≡ levelAmong (pick t (record { fields = recordOf s; parts = partsOf s } ∷ slots) slots) type direction m
+    by-case : (t : Bool) → orElse (laneLevel (reportLane s t direction) (pairOf s true) type m)
+        (levelAmong slots type direction m) ≡ levelAmong (pick t (record
+        { fields = recordOf s; parts = partsOf s } ∷ slots) slots) type direction m
     by-case true =
         ap (λ (v : Level). orElse v (levelAmong slots type direction m))
-        (lane-level (eqb (recordOf s .direction) direction) (recordOf s) (partsOf s) _ (partCount s) type direction m refl (report-pairs s 0 (partCount s) m))
-    by-case false = ap (λ (v : Level). orElse v (levelAmong slots type direction m)) (lane-silent (recordOf s) _ (partCount s) type m)
+        (lane-level (eqb (recordOf s .direction) direction) (recordOf s) (partsOf s) _ (partCount s) type direction m refl
+        (report-pairs s 0 (partCount s) m))
+    by-case false = ap (λ (v : Level). orElse v (levelAmong slots type direction m)) (lane-silent (recordOf s) _
+        (partCount s) type m)
 
 -- lane i as it is read
 module _ (b s : List ℕ) (swept : Swept) (direction : ℕ) {i : ℕ} where
@@ -122,7 +139,8 @@ module _ (b s : List ℕ) (swept : Swept) (direction : ℕ) {i : ℕ} where
   unfolding laneAt
   first-lane e q = q ∙ ap (laneAt b s swept direction) (sym e)
 
-  pub next-lane : {l : Lane} {t : Bool} → (i ≡ 0 → ⊥) → t ≡ getD (swept .counted) (i - 1) false → l ≡ slotLane b (i - 1) t direction → l ≡ laneAt b s swept direction i
+  pub next-lane : {l : Lane} {t : Bool} → (i ≡ 0 → ⊥) → t ≡ getD (swept .counted) (i - 1) false
+      → l ≡ slotLane b (i - 1) t direction → l ≡ laneAt b s swept direction i
   unfolding laneAt
   next-lane ne c q =
       let e : suc (i - 1) ≡ i = omega arith in

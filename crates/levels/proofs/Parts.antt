@@ -26,7 +26,8 @@ use Rattle.levels.specs.Stays.{Holds, Stays}
 use Rattle.levels.proofs.Spans.{Sooner}
 
 -- a pair as the code reads it
-pub pair-in-report : (s : List ℕ) (t : Bool) (j : ℕ) {p : Part} {k : Kilowatt} → t ≡ true → p ≡ partAt s j → k ≡ sizeOf (p .power) → record { end = p .period .end; power = k } ≡ pairOf s t j
+pub pair-in-report : (s : List ℕ) (t : Bool) (j : ℕ) {p : Part} {k : Kilowatt} → t ≡ true → p ≡ partAt s j → k ≡ sizeOf (p .power)
+    → record { end = p .period .end; power = k } ≡ pairOf s t j
 unfolding pairOf pick
 pair-in-report s t j e q w = rw (w, q) (sym (ap (λ (t : Bool). pairOf s t j) e))
 
@@ -57,11 +58,20 @@ module _ {f : ℕ → Pair} {n j m : ℕ} (h : Passed f n j m) where
   stepped-hit {p} l q o =
       let ends : p .end .0 ≡ f j .end .0 = ap (λ (x : Pair). x .end .0) q in
       record {
-        stays = record { later = o; same = λ k a b. h .rest k a ∙ rw (series-more f j n l, lt-ltb k (f j .end .0) (omega arith), q) };
+        stays = record {
+          later = o;
+          same = λ k a b. h .rest k a ∙ rw (
+            series-more f j n l,
+            lt-ltb k (f j .end .0)
+                (omega arith),
+            q,
+          );
+        };
         passed = h;
       }
 
-  pub stepped-all : {span : LevelSpan} {far : Minute} → n ≤ j → span .level ≡ noLevel → span .until ≡ far → m < far .0 → Stepped f n m (levelAmongPairs (series f 0 n)) (record { span = span; place = n })
+  pub stepped-all : {span : LevelSpan} {far : Minute} → n ≤ j → span .level ≡ noLevel → span .until ≡ far → m < far .0
+      → Stepped f n m (levelAmongPairs (series f 0 n)) (record { span = span; place = n })
   unfolding levelAmongPairs series
   stepped-all {span} {far} l e q o =
       let most = h .most in
@@ -75,7 +85,8 @@ module _ {f : ℕ → Pair} {n j m : ℕ} (h : Passed f n j m) where
 
 -- a lane: before its start, from its end on, and between
 module _ (lane : Lane) (f : ℕ → Pair) {m place : ℕ} (h : Passed f (lane .count) place m) {span : LevelSpan} where
-  pub before-start : span .level ≡ noLevel → span .until ≡ lane .period .start → m < lane .period .start .0 → Stepped f (lane .count) m (laneLevel lane f (lane .«record_type»)) (record { span = span; place = place })
+  pub before-start : span .level ≡ noLevel → span .until ≡ lane .period .start → m < lane .period .start .0
+      → Stepped f (lane .count) m (laneLevel lane f (lane .«record_type»)) (record { span = span; place = place })
   unfolding laneLevel pick
   before-start e q l =
       let until : span .until .0 ≡ lane .period .start .0 = ap (λ (x : Minute). x .0) q in
@@ -87,7 +98,8 @@ module _ (lane : Lane) (f : ℕ → Pair) {m place : ℕ} (h : Passed f (lane .c
         passed = h;
       }
 
-  pub past-end : {far : Minute} → span .level ≡ noLevel → span .until ≡ far → lane .period .end .0 ≤ m → m < far .0 → Stepped f (lane .count) m (laneLevel lane f (lane .«record_type»)) (record { span = span; place = place })
+  pub past-end : {far : Minute} → span .level ≡ noLevel → span .until ≡ far → lane .period .end .0 ≤ m → m < far .0
+      → Stepped f (lane .count) m (laneLevel lane f (lane .«record_type»)) (record { span = span; place = place })
   unfolding laneLevel pick
   past-end {far} e q l o =
       let until : span .until .0 ≡ far .0 = ap (λ (x : Minute). x .0) q in
@@ -99,10 +111,13 @@ module _ (lane : Lane) (f : ℕ → Pair) {m place : ℕ} (h : Passed f (lane .c
         passed = h;
       }
 
-pub within : (lane : Lane) (f : ℕ → Pair) {m : ℕ} {r : LaneSpan} {until : Minute} → lane .period .start .0 ≤ m → m < lane .period .end .0 → Stepped f (lane .count) m (levelAmongPairs (series f 0 (lane .count))) r → Sooner (r .span .until .0) (lane .period .end .0) (until .0) → Stepped f (lane .count) m (laneLevel lane f (lane .«record_type»)) (record {
-  span = record { level = r .span .level; until = until };
-  place = r .place;
-})
+pub within : (lane : Lane) (f : ℕ → Pair) {m : ℕ} {r : LaneSpan} {until : Minute} → lane .period .start .0 ≤ m
+    → m < lane .period .end .0 → Stepped f (lane .count) m (levelAmongPairs (series f 0 (lane .count))) r
+    → Sooner (r .span .until .0) (lane .period .end .0) (until .0)
+    → Stepped f (lane .count) m (laneLevel lane f (lane .«record_type»)) (record {
+      span = record { level = r .span .level; until = until };
+      place = r .place;
+    })
 unfolding laneLevel pick
 within lane f {m} {r} {until} a b h s =
     let sooner = s .one in
@@ -110,7 +125,12 @@ within lane f {m} {r} {until} a b h s =
     record {
       stays = record {
         later = s .above m (h .stays .later) b;
-        same = λ k c d. rw (eq-eqb (lane .«record_type») (lane .«record_type») refl, le-leb (lane .period .start .0) k (omega arith), lt-ltb k (lane .period .end .0) (omega arith)) (h .stays .same k c (omega arith));
+        same = λ k c d. rw (
+          eq-eqb (lane .«record_type») (lane .«record_type») refl,
+          le-leb (lane .period .start .0) k
+              (omega arith),
+          lt-ltb k (lane .period .end .0) (omega arith),
+        ) (h .stays .same k c (omega arith));
       };
       passed = h .passed;
     }

@@ -44,7 +44,8 @@ module _ {A : Type 0} {f : ℕ → A} {m : ℕ} {v : A} {n : ℕ} (h : Holds f m
   holds-of g = record { later = h .later; same = λ k a b. ap g (h .same k a b) }
 
 -- two together, up to the sooner of their ends
-pub holds-two : {A B C : Type 0} (g : A → B → C) {f₁ : ℕ → A} {f₂ : ℕ → B} {m n₁ n₂ n : ℕ} {v₁ : A} {v₂ : B} → Holds f₁ m v₁ n₁ → Holds f₂ m v₂ n₂ → Sooner n₁ n₂ n → Holds (λ k. g (f₁ k) (f₂ k)) m (g v₁ v₂) n
+pub holds-two : {A B C : Type 0} (g : A → B → C) {f₁ : ℕ → A} {f₂ : ℕ → B} {m n₁ n₂ n : ℕ} {v₁ : A} {v₂ : B} → Holds f₁ m v₁ n₁
+    → Holds f₂ m v₂ n₂ → Sooner n₁ n₂ n → Holds (λ k. g (f₁ k) (f₂ k)) m (g v₁ v₂) n
 holds-two g {f₁} {f₂} {m} {n₁} {n₂} {n} {v₁} {v₂} p q s =
     record {
       later = s .above m (p .later) (q .later);
@@ -52,14 +53,16 @@ holds-two g {f₁} {f₂} {m} {n₁} {n₂} {n} {v₁} {v₂} p q s =
     }
 
 -- a test that answers v in each of n minutes from m on
-run-same : (test : ℕ → Bool) (v : Bool) (m n : ℕ) → ((k : ℕ) → m ≤ k → k < m + suc n → test k ≡ v) → all test (series (λ k. k) m (suc n)) ≡ v
+run-same : (test : ℕ → Bool) (v : Bool) (m n : ℕ) → ((k : ℕ) → m ≤ k → k < m + suc n → test k ≡ v)
+    → all test (series (λ k. k) m (suc n)) ≡ v
 unfolding all series
 run-same test v m zero h = rw (h m (omega arith) (omega arith)) (and-true v)
 run-same test v m (suc n) h =
     rw (h m (omega arith) (omega arith), run-same test v (m + 1) n (λ k a b. h k (omega arith) (omega arith))) (and-self v)
 
 -- the minutes from start on, cut at m
-run-cut : (test : ℕ → Bool) (start a n : ℕ) → all test (series (λ k. k) start (a + n)) ≡ (all test (series (λ k. k) start a) && all test (series (λ k. k) (start + a) n))
+run-cut : (test : ℕ → Bool) (start a n : ℕ)
+    → all test (series (λ k. k) start (a + n)) ≡ (all test (series (λ k. k) start a) && all test (series (λ k. k) (start + a) n))
 unfolding all series
 run-cut test start zero n =
     let e : start + 0 ≡ start = omega arith in
@@ -77,7 +80,8 @@ every-none start test =
     rw e
 
 -- a turn of the sweep, from m to n
-pub every-turn : (start : ℕ) {m n : ℕ} {test : ℕ → Bool} {v : Bool} → start ≤ m → Holds test m v n → everyMinute start n test ≡ (everyMinute start m test && v)
+pub every-turn : (start : ℕ) {m n : ℕ} {test : ℕ → Bool} {v : Bool} → start ≤ m → Holds test m v n
+    → everyMinute start n test ≡ (everyMinute start m test && v)
 every-turn start {m} {n} {test} {v} l h =
     let later = h .later in
     let e : n - start ≡ (m - start) + suc (n - m - 1) = omega arith in
@@ -92,5 +96,7 @@ not-and false b = refl
 pub some-none : (start : ℕ) (test : ℕ → Bool) → someMinute start start test ≡ false
 some-none start test = ap not (every-none start (λ m. not (test m)))
 
-pub some-turn : (start : ℕ) {m n : ℕ} {test : ℕ → Bool} {v : Bool} → start ≤ m → Holds test m v n → someMinute start n test ≡ (someMinute start m test || v)
-some-turn start {m} {n} {test} {v} l h = ap not (every-turn start l (holds-of h not)) ∙ not-and (everyMinute start m (λ k. not (test k))) v
+pub some-turn : (start : ℕ) {m n : ℕ} {test : ℕ → Bool} {v : Bool} → start ≤ m → Holds test m v n
+    → someMinute start n test ≡ (someMinute start m test || v)
+some-turn start {m} {n} {test} {v} l h = ap not (every-turn start l (holds-of h not)) ∙ not-and (everyMinute start m (λ k. not
+    (test k))) v

@@ -54,7 +54,9 @@ module _ (b s : List ℕ) {i : ℕ} (e : i ≡ 0) where
   pub first-passed : {n j m : ℕ} → Passed (lanePair b s i) n j m → Passed (pairOf s true) n j m
   first-passed {n} {j} {m} h = subst (λ f. Passed f n j m) first-pair h
 
-  pub first-stepped : (lane : Lane) {n m : ℕ} {r : LaneSpan} → Stepped (pairOf s true) n m (laneLevel lane (pairOf s true) (lane .«record_type»)) r → Stepped (lanePair b s i) n m (laneLevel lane (lanePair b s i) (lane .«record_type»)) r
+  pub first-stepped : (lane : Lane) {n m : ℕ} {r : LaneSpan}
+      → Stepped (pairOf s true) n m (laneLevel lane (pairOf s true) (lane .«record_type»)) r
+      → Stepped (lanePair b s i) n m (laneLevel lane (lanePair b s i) (lane .«record_type»)) r
   first-stepped lane {n} {m} {r} h = subst (λ f. Stepped f n m (laneLevel lane f (lane .«record_type»)) r) (sym first-pair) h
 
 module _ (b s : List ℕ) {i : ℕ} (e : i ≡ 0 → ⊥) {z : List ℕ} (read : z ≡ slotAt b (i - 1)) where
@@ -65,7 +67,9 @@ module _ (b s : List ℕ) {i : ℕ} (e : i ≡ 0 → ⊥) {z : List ℕ} (read :
   pub slot-passed : {n j m : ℕ} → Passed (lanePair b s i) n j m → Passed (pairOf z false) n j m
   slot-passed {n} {j} {m} h = subst (λ f. Passed f n j m) slot-pair h
 
-  pub slot-stepped : (lane : Lane) {n m : ℕ} {r : LaneSpan} → Stepped (pairOf z false) n m (laneLevel lane (pairOf z false) (lane .«record_type»)) r → Stepped (lanePair b s i) n m (laneLevel lane (lanePair b s i) (lane .«record_type»)) r
+  pub slot-stepped : (lane : Lane) {n m : ℕ} {r : LaneSpan}
+      → Stepped (pairOf z false) n m (laneLevel lane (pairOf z false) (lane .«record_type»)) r
+      → Stepped (lanePair b s i) n m (laneLevel lane (lanePair b s i) (lane .«record_type»)) r
   slot-stepped lane {n} {m} {r} h = subst (λ f. Stepped f n m (laneLevel lane f (lane .«record_type»)) r) (sym slot-pair) h
 
 none-passed : (n i : ℕ) → getD {A = ℕ} (replicate n 0) i 0 ≡ 0
@@ -110,7 +114,8 @@ module _ (b s : List ℕ) (lane : ℕ → Lane) where
     pub silent : (i k : ℕ) → i < 9 → (lane i .«record_type» ≡ type → lane i .period .end .0 ≤ k) → level i k ≡ level (i + 1) k
     unfolding laneLevel pick
     silent i k l h = on i k l ∙ by-case (eqb (lane i .«record_type») type) refl where
-      by-case : (t : Bool) → eqb (lane i .«record_type») type ≡ t → orElse (laneLevel (lane i) (lanePair b s i) type k) (level (i + 1) k) ≡ level (i + 1) k
+      by-case : (t : Bool) → eqb (lane i .«record_type») type ≡ t
+          → orElse (laneLevel (lane i) (lanePair b s i) type k) (level (i + 1) k) ≡ level (i + 1) k
       by-case true e = rw (le-ltb k (lane i .period .end .0) (h (eqb-true (lane i .«record_type») type e)), and-false)
       by-case false e = rw e
 
@@ -128,7 +133,8 @@ module _ (b s : List ℕ) (lane : ℕ → Lane) where
       looked-past ne =
           record { most = omega arith; later = h .later; rest = λ k a b. h .rest k a b ∙ silent i k l (λ e. absurd (ne e)) }
 
-      module _ {l′ : Lane} {span : LevelSpan} {next : ℕ} (read : l′ ≡ lane i) (own : lane i .«record_type» ≡ type) (p : Stays (laneLevel l′ (lanePair b s i) (l′ .«record_type»)) m span) (z : Sooner until (span .until .0) next) where
+      module _ {l′ : Lane} {span : LevelSpan} {next : ℕ} (read : l′ ≡ lane i) (own : lane i .«record_type» ≡ type) (p : Stays
+          (laneLevel l′ (lanePair b s i) (l′ .«record_type»)) m span) (z : Sooner until (span .until .0) next) where
         here : (k : ℕ) → m ≤ k → k < next → laneLevel (lane i) (lanePair b s i) type k ≡ span .level
         here k x y =
             let one = z .one in
@@ -155,7 +161,8 @@ module _ (b s : List ℕ) (lane : ℕ → Lane) where
               rest = λ k x y. h .rest k x (omega arith) ∙ on i k l ∙ rw (here k x y, t);
             }
 
-    pub looked-all : {from i m : ℕ} {until : Minute} {r : LevelSpan} → Looked from i m (until .0) → 9 ≤ i → r .level ≡ noLevel → r .until ≡ until → Holds (level from) m (r .level) (r .until .0)
+    pub looked-all : {from i m : ℕ} {until : Minute} {r : LevelSpan} → Looked from i m (until .0) → 9 ≤ i → r .level ≡ noLevel
+        → r .until ≡ until → Holds (level from) m (r .level) (r .until .0)
     unfolding levelAmongLanes
     looked-all {from} {i} {m} {until} {r} h l e q =
         let none : 9 - i ≡ 0 = omega arith in
@@ -172,7 +179,8 @@ module _ (types ends : List ℕ) (type : ℕ) where
   ended-later h l =
       record { most = h .most; before = λ i o q. let e = h .before i o q in omega arith }
 
-  pub ended-more : {from m : ℕ} → Ended types ends type from m → from < 9 → (eqb (getD types from 0) type && ltb m (getD ends from 0)) ≡ false → Ended types ends type (from + 1) m
+  pub ended-more : {from m : ℕ} → Ended types ends type from m → from < 9
+      → (eqb (getD types from 0) type && ltb m (getD ends from 0)) ≡ false → Ended types ends type (from + 1) m
   ended-more {from} {m} h l e = record { most = omega arith; before = before } where
     last : getD types from 0 ≡ type → getD ends from 0 ≤ m
     last q = ltb-false m (getD ends from 0) (rw (eq-eqb (getD types from 0) type q) at e)
@@ -192,7 +200,8 @@ module _ (b s : List ℕ) (types starts ends counts : List ℕ) (type : ℕ) whe
   lane = laneOfFields types starts ends counts
 
   -- the lanes before `to` are silent
-  skipped : (n from to m k : ℕ) → from + n ≡ to → Ended types ends type to m → m ≤ k → levelAmongLanes b s lane type from (9 - from) k ≡ levelAmongLanes b s lane type to (9 - to) k
+  skipped : (n from to m k : ℕ) → from + n ≡ to → Ended types ends type to m → m ≤ k
+      → levelAmongLanes b s lane type from (9 - from) k ≡ levelAmongLanes b s lane type to (9 - to) k
   skipped zero from to m k e h o =
       let same : from ≡ to = omega arith in
       ap (λ (i : ℕ). levelAmongLanes b s lane type i (9 - i) k) same
@@ -201,19 +210,25 @@ module _ (b s : List ℕ) (types starts ends counts : List ℕ) (type : ℕ) whe
       silent b s lane type from k (omega arith) (λ q. let x = h .before from (omega arith) q in omega arith)
       ∙ skipped n (from + 1) to m k (omega arith) h o
 
-  pub known-none : {track : Track} {m : ℕ} → track .span .until .0 ≡ 0 → track .from ≡ 0 → Known b s types starts ends counts type m track
+  pub known-none : {track : Track} {m : ℕ} → track .span .until .0 ≡ 0 → track .from ≡ 0
+      → Known b s types starts ends counts type m track
   known-none e q = record { same = λ k a b. absurd (omega arith); ended = ended-none types ends type q }
 
-  pub known-later : {track : Track} {m k : ℕ} → Tracked b s types starts ends counts type m track → m ≤ k → Known b s types starts ends counts type k track
+  pub known-later : {track : Track} {m k : ℕ} → Tracked b s types starts ends counts type m track → m ≤ k
+      → Known b s types starts ends counts type k track
   known-later h l = record { same = λ j a b. h .stays .same j (omega arith) b; ended = ended-later types ends type (h .ended) l }
 
-  pub known-still : {track : Track} {m k : ℕ} → Known b s types starts ends counts type m track → m ≤ k → Known b s types starts ends counts type k track
+  pub known-still : {track : Track} {m k : ℕ} → Known b s types starts ends counts type m track → m ≤ k
+      → Known b s types starts ends counts type k track
   known-still h l = record { same = λ j a b. h .same j (omega arith) b; ended = ended-later types ends type (h .ended) l }
 
-  pub tracked-still : {track : Track} {m : ℕ} → Known b s types starts ends counts type m track → m < track .span .until .0 → Tracked b s types starts ends counts type m track
+  pub tracked-still : {track : Track} {m : ℕ} → Known b s types starts ends counts type m track → m < track .span .until .0
+      → Tracked b s types starts ends counts type m track
   tracked-still h l = record { stays = record { later = l; same = h .same }; ended = h .ended }
 
-  pub tracked-anew : {span : LevelSpan} {from m : ℕ} → Ended types ends type from m → Stays (levelAmongLanes b s lane type from (9 - from)) m span → Tracked b s types starts ends counts type m (record { span = span; from = from })
+  pub tracked-anew : {span : LevelSpan} {from m : ℕ} → Ended types ends type from m
+      → Stays (levelAmongLanes b s lane type from (9 - from)) m span
+      → Tracked b s types starts ends counts type m (record { span = span; from = from })
   tracked-anew {span} {from} {m} e h =
       record {
         stays = record { later = h .later; same = λ k x y. skipped from 0 from m k (omega arith) e x ∙ h .same k x y };
@@ -221,7 +236,8 @@ module _ (b s : List ℕ) (types starts ends counts : List ℕ) (type : ℕ) whe
       }
 
 -- the three levels of all lanes
-module _ (b s : List ℕ) (types starts ends counts : List ℕ) {m : ℕ} {forced : Track} (f : Tracked b s types starts ends counts 4 m forced) where
+module _ (b s : List ℕ) (types starts ends counts : List ℕ) {m : ℕ} {forced : Track}
+    (f : Tracked b s types starts ends counts 4 m forced) where
   abbrev lanes : ℕ → Lane
   lanes = laneOfFields types starts ends counts
 
@@ -229,7 +245,9 @@ module _ (b s : List ℕ) (types starts ends counts : List ℕ) {m : ℕ} {force
   unfolding laneLevels
   forced-level = f .stays
 
-  pub three-levels : {positive negative : Track} {r : LevelsSpan} → Tracked b s types starts ends counts 2 m positive → Tracked b s types starts ends counts 3 m negative → r ≡ levelsOf (forced .span) (positive .span) (negative .span) → Holds (laneLevels b s lanes) m (r .levels) (r .until .0)
+  pub three-levels : {positive negative : Track} {r : LevelsSpan} → Tracked b s types starts ends counts 2 m positive
+      → Tracked b s types starts ends counts 3 m negative → r ≡ levelsOf (forced .span) (positive .span) (negative .span)
+      → Holds (laneLevels b s lanes) m (r .levels) (r .until .0)
   unfolding laneLevels
   three-levels {positive} {negative} {r} p n e =
       let as-levels : Level → Level → Level → Levels = λ x y z. record { forced = x; positive = y; negative = z } in
@@ -238,7 +256,8 @@ module _ (b s : List ℕ) (types starts ends counts : List ℕ) {m : ℕ} {force
       (holds-by (holds-two apply (holds-two as-levels (f .stays) (p .stays) (sooner refl)) (n .stays) (sooner refl)) (λ k. refl))
 
 -- lanes that are alike have the same levels
-levels-same : (b s : List ℕ) (x y : ℕ → Lane) (type i n m : ℕ) → ((j : ℕ) → j < i + n → x j ≡ y j) → levelAmongLanes b s x type i n m ≡ levelAmongLanes b s y type i n m
+levels-same : (b s : List ℕ) (x y : ℕ → Lane) (type i n m : ℕ) → ((j : ℕ) → j < i + n → x j ≡ y j)
+    → levelAmongLanes b s x type i n m ≡ levelAmongLanes b s y type i n m
 unfolding levelAmongLanes
 levels-same b s x y type i zero m h = refl
 levels-same b s x y type i (suc n) m h = rw (h i (omega arith), levels-same b s x y type (i + 1) n m (λ j l. h j (omega arith)))
@@ -246,20 +265,32 @@ levels-same b s x y type i (suc n) m h = rw (h i (omega arith), levels-same b s 
 fields-lane : (lane : ℕ → Lane) (j : ℕ) → j < 9 → laneIn (lanesOf lane) j ≡ lane j
 unfolding lanesOf
 fields-lane lane j l =
-    rw (series-at (λ i. lane i .«record_type») 0 9 j 0 l, series-at (λ i. lane i .period .start .0) 0 9 j 0 l, series-at (λ i. lane i .period .end .0) 0 9 j 0 l, series-at (λ i. lane i .count) 0 9 j 0 l, zero-add j)
+    rw (
+      series-at (λ i. lane i .«record_type») 0 9 j 0 l,
+      series-at (λ i. lane i .period .start .0) 0 9 j 0 l,
+      series-at
+          (λ i. lane i .period .end .0) 0 9 j 0 l,
+      series-at (λ i. lane i .count) 0 9 j 0 l,
+      zero-add j,
+    )
 
 -- they are those of the records that count
-pub records-levels : (b s : List ℕ) (swept : Swept) (direction : ℕ) {lanes : Lanes} → lanes ≡ lanesOf (laneAt b s swept direction) → (m : ℕ) → laneLevels b s (laneIn lanes) m ≡ levelsAt (sweptRecords b s (swept .counted) (swept .«with_report»)) direction m
+pub records-levels : (b s : List ℕ) (swept : Swept) (direction : ℕ) {lanes : Lanes} → lanes ≡ lanesOf (laneAt b s swept direction)
+    → (m : ℕ) → laneLevels b s (laneIn lanes) m ≡ levelsAt (sweptRecords b s (swept .counted) (swept .«with_report»)) direction m
 unfolding laneLevels levelsAt
 records-levels b s swept direction {lanes} e m =
-    let same : (type : ℕ) → levelAmongLanes b s (laneIn lanes) type 0 9 m ≡ levelAmong (sweptRecords b s (swept .counted) (swept .«with_report»)) type direction m = λ type.
-    levels-same b s (laneIn lanes) (laneAt b s swept direction) type 0 9 m (λ j l. ap (λ (x : Lanes). laneIn x j) e ∙ fields-lane (laneAt b s swept direction) j (omega arith))
+    let same : (type : ℕ)
+    → levelAmongLanes b s (laneIn lanes) type 0 9 m ≡ levelAmong (sweptRecords b s (swept .counted)
+    (swept .«with_report»)) type direction m = λ type.
+    levels-same b s (laneIn lanes) (laneAt b s swept direction) type 0 9 m (λ j l. ap (λ (x : Lanes). laneIn x j) e ∙ fields-lane
+    (laneAt b s swept direction) j (omega arith))
     ∙ lanes-level b s swept type direction m in
     rw (same 4, same 2, same 3)
 
 -- the lanes' fields that a loop fills
 module _ (lane : ℕ → Lane) where
-  field-more : (f : ℕ → ℕ) (xs : List ℕ) {i v : ℕ} → length xs ≡ 9 → take i xs ≡ series f 0 i → i < 9 → v ≡ f i → take (i + 1) (set xs i v) ≡ series f 0 (i + 1)
+  field-more : (f : ℕ → ℕ) (xs : List ℕ) {i v : ℕ} → length xs ≡ 9 → take i xs ≡ series f 0 i → i < 9 → v ≡ f i
+      → take (i + 1) (set xs i v) ≡ series f 0 (i + 1)
   field-more f xs {i} n e l q = filled-more f xs 0 i e (omega arith) (q ∙ ap f (sym (zero-add i)))
 
   pub record Filled (types starts ends counts : List ℕ) (i : ℕ) : Type 0 where
@@ -272,24 +303,48 @@ module _ (lane : ℕ → Lane) where
 
   pub filled-start : Filled (replicate 9 0) (replicate 9 0) (replicate 9 0) (replicate 9 0) 0
   unfolding series
-  filled-start = record { most = omega arith; sizes = (refl, refl, refl, refl); typed = refl; started = refl; stopped = refl; counted = refl }
+  filled-start = record {
+    most = omega arith;
+    sizes =
+        (refl, refl, refl, refl);
+    typed = refl;
+    started = refl;
+    stopped = refl;
+    counted = refl;
+  }
 
-  pub filled-next : {types starts ends counts : List ℕ} {i : ℕ} {l : Lane} → Filled types starts ends counts i → i < 9 → l ≡ lane i → Filled (set types i (l .«record_type»)) (set starts i (l .period .start .0)) (set ends i (l .period .end .0)) (set counts i (l .count)) (i + 1)
+  pub filled-next : {types starts ends counts : List ℕ} {i : ℕ} {l : Lane} → Filled types starts ends counts i → i < 9 → l ≡ lane i
+      → Filled (set types i (l .«record_type»)) (set starts i (l .period .start .0)) (set ends i (l .period .end .0)) (set counts i
+      (l .count)) (i + 1)
   filled-next h l e =
       let sizes = h .sizes in
       record {
         most = omega arith;
-        sizes = (simp length-set (omega arith), simp length-set (omega arith), simp length-set (omega arith), simp length-set (omega arith));
+        sizes = (
+          simp length-set (omega arith),
+          simp length-set (omega arith),
+          simp length-set (omega arith),
+          simp length-set
+              (omega arith),
+        );
         typed = field-more _ _ (sizes .0) (h .typed) l (ap (λ (l : Lane). l .«record_type») e);
         started = field-more _ _ (sizes .1) (h .started) l (ap (λ (l : Lane). l .period .start .0) e);
         stopped = field-more _ _ (sizes .2) (h .stopped) l (ap (λ (l : Lane). l .period .end .0) e);
         counted = field-more _ _ (sizes .3) (h .counted) l (ap (λ (l : Lane). l .count) e);
       }
 
-  pub filled-end : {types starts ends counts : List ℕ} {i : ℕ} → Filled types starts ends counts i → 9 ≤ i → record { types = types; starts = starts; ends = ends; counts = counts } ≡ lanesOf lane
+  pub filled-end : {types starts ends counts : List ℕ} {i : ℕ} → Filled types starts ends counts i → 9 ≤ i
+      → record { types = types; starts = starts; ends = ends; counts = counts } ≡ lanesOf lane
   unfolding lanesOf
   filled-end {types} {starts} {ends} {counts} {i} h l =
       let most = h .most in
       let e : i ≡ 9 = omega arith in
       let sizes = h .sizes in
-      rw (filled-all types _ 9 (sizes .0) (rw e at (h .typed)), filled-all starts _ 9 (sizes .1) (rw e at (h .started)), filled-all ends _ 9 (sizes .2) (rw e at (h .stopped)), filled-all counts _ 9 (sizes .3) (rw e at (h .counted)))
+      rw (
+        filled-all types _ 9 (sizes .0) (rw e at (h .typed)),
+        filled-all starts _ 9 (sizes .1) (rw e at
+            (h .started)),
+        filled-all ends _ 9 (sizes .2) (rw e at (h .stopped)),
+        filled-all counts _ 9 (sizes .3) (rw e at
+            (h .counted)),
+      )

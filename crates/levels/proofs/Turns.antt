@@ -15,7 +15,8 @@ use Rattle.levels.specs.Stays.{Holds}
 use Rattle.levels.proofs.Spans.{Sooner, holds-of, holds-less, every-none, every-turn, some-none, some-turn}
 
 -- levels that are those of records
-pub found-records : (kind : ℕ) (range : PowerRange) (ws : List FullRecord) (direction start end : ℕ) {f : ℕ → Levels} → ((m : ℕ) → f m ≡ levelsAt ws direction m) → foundIn f kind range start end ≡ sweepResult kind range ws direction start end
+pub found-records : (kind : ℕ) (range : PowerRange) (ws : List FullRecord) (direction start end : ℕ) {f : ℕ → Levels} → ((m : ℕ)
+    → f m ≡ levelsAt ws direction m) → foundIn f kind range start end ≡ sweepResult kind range ws direction start end
 unfolding foundIn sweepResult levelsEvery levelsSome
 found-records kind range ws direction start end h = λ i. foundIn (λ m. h m i) kind range start end
 
@@ -24,7 +25,8 @@ module _ (f : ℕ → Levels) (kind : ℕ) (range : PowerRange) (start : ℕ) wh
   unfolding foundIn
   found-none = rw (every-none, some-none, some-none)
 
-  found-turn : {m n : ℕ} {l : Levels} → start ≤ m → Holds f m l n → foundIn f kind range start n ≡ withSpan (foundIn f kind range start m) kind range l
+  found-turn : {m n : ℕ} {l : Levels} → start ≤ m → Holds f m l n
+      → foundIn f kind range start n ≡ withSpan (foundIn f kind range start m) kind range l
   unfolding foundIn
   found-turn {m} {n} {l} o h =
       λ i. record {
@@ -35,13 +37,16 @@ module _ (f : ℕ → Levels) (kind : ℕ) (range : PowerRange) (start : ℕ) wh
 
   -- minutes without forced work: nothing is found in them
   module _ {m n : ℕ} {v : Level} (from : start ≤ m) (h : Holds (λ k. f k .forced) m v n) (none : v .there ≡ false) where
-    quiet : (test : Levels → Bool) (t : Bool) → ((l : Levels) → l .forced .there ≡ false → test l ≡ t) → Holds (λ k. test (f k)) m t n
+    quiet : (test : Levels → Bool) (t : Bool) → ((l : Levels) → l .forced .there ≡ false → test l ≡ t)
+        → Holds (λ k. test (f k)) m t n
     quiet test t g = record { later = h .later; same = λ k a b. g (f k) (ap (λ (l : Level). l .there) (h .same k a b) ∙ none) }
 
-    every-quiet : (test : Levels → Bool) → ((l : Levels) → l .forced .there ≡ false → test l ≡ true) → everyMinute start n (λ k. test (f k)) ≡ everyMinute start m (λ k. test (f k))
+    every-quiet : (test : Levels → Bool) → ((l : Levels) → l .forced .there ≡ false → test l ≡ true)
+        → everyMinute start n (λ k. test (f k)) ≡ everyMinute start m (λ k. test (f k))
     every-quiet test g = every-turn start from (quiet test true g) ∙ and-true (everyMinute start m (λ k. test (f k)))
 
-    some-quiet : (test : Levels → Bool) → ((l : Levels) → l .forced .there ≡ false → test l ≡ false) → someMinute start n (λ k. test (f k)) ≡ someMinute start m (λ k. test (f k))
+    some-quiet : (test : Levels → Bool) → ((l : Levels) → l .forced .there ≡ false → test l ≡ false)
+        → someMinute start n (λ k. test (f k)) ≡ someMinute start m (λ k. test (f k))
     some-quiet test g = some-turn start from (quiet test false g) ∙ or-false (someMinute start m (λ k. test (f k)))
 
     found-quiet : foundIn f kind range start n ≡ foundIn f kind range start m
@@ -68,19 +73,27 @@ module _ (f : ℕ → Levels) (kind : ℕ) (range : PowerRange) (start : ℕ) wh
     pub found : g ≡ foundIn f kind range start m
 
   pub judged-none : {end m : ℕ} → m ≡ start → Judged end m (record { fits = true; above = false; below = false })
-  judged-none {end} {m} e = record { from = omega arith; to = inr (omega arith); found = found-none ∙ ap (foundIn f kind range start) (sym e) }
+  judged-none {end} {m} e = record {
+    from = omega arith;
+    to = inr (omega arith);
+    found = found-none ∙ ap
+        (foundIn f kind range start) (sym e);
+  }
 
-  pub judged-turn : {end m n until : ℕ} {g k : SweepResult} {l : Levels} → Judged end m g → m < end → Holds f m l until → k ≡ withSpan g kind range l → Sooner until end n → Judged end n k
+  pub judged-turn : {end m n until : ℕ} {g k : SweepResult} {l : Levels} → Judged end m g → m < end → Holds f m l until
+      → k ≡ withSpan g kind range l → Sooner until end n → Judged end n k
   judged-turn {end} {m} {n} {until} {g} {k} {l} w o h e z =
       let up = z .above m (h .later) o in
       let before = w .from in
       record {
         from = omega arith;
         to = inl (z .two);
-        found = e ∙ ap (λ (g : SweepResult). withSpan g kind range l) (w .found) ∙ sym (found-turn (w .from) (holds-less h up (z .one)));
+        found = e ∙ ap (λ (g : SweepResult). withSpan g kind range l) (w .found) ∙ sym (found-turn (w .from) (holds-less h up
+            (z .one)));
       }
 
-  pub judged-quiet : {end m n until : ℕ} {g : SweepResult} {v : Level} → Judged end m g → m < end → Holds (λ k. f k .forced) m v until → v .there ≡ false → Sooner until end n → Judged end n g
+  pub judged-quiet : {end m n until : ℕ} {g : SweepResult} {v : Level} → Judged end m g → m < end
+      → Holds (λ k. f k .forced) m v until → v .there ≡ false → Sooner until end n → Judged end n g
   judged-quiet {end} {m} {n} {until} {g} {v} w o h e z =
       let up = z .above m (h .later) o in
       let before = w .from in

@@ -41,7 +41,8 @@ module _ (kind : ℕ) (range : PowerRange) where
   none-within : Within noLevel
   none-within e = absurd (false≢true e)
 
-  slot-level : (z : List ℕ) (i n m : ℕ) (start : Minute) → all pair-within (series (pairAt z) i n) ≡ true → Within (levelIn (pairsFrom z (88 + 8 * i) n start) m)
+  slot-level : (z : List ℕ) (i n m : ℕ) (start : Minute) → all pair-within (series (pairAt z) i n) ≡ true
+      → Within (levelIn (pairsFrom z (88 + 8 * i) n start) m)
   unfolding levelIn pairsFrom all series
   slot-level z i zero m start e = none-within
   slot-level z i (suc n) m start e =
@@ -53,11 +54,14 @@ module _ (kind : ℕ) (range : PowerRange) where
       (λ t. subst (λ (at : ℕ). Within (levelIn (pairsFrom z at n (p .end)) m)) a rest)
 
   module _ (b : List ℕ) (direction m : ℕ) where
-    slot-quiet : (i : ℕ) → slotWithin b i true direction kind range ≡ true → Within (levelOf (slotRecord b i) forcedWork direction m)
+    slot-quiet : (i : ℕ) → slotWithin b i true direction kind range ≡ true
+        → Within (levelOf (slotRecord b i) forcedWork direction m)
     unfolding slotWithin pairsWithin levelOf
     slot-quiet i e =
-        pick-elim Within (eqb (r .«record_type») 4 && eqb (r .direction) direction && leb (r .period .start .0) m && ltb m (r .period .end .0))
-        (λ t. slot-level z 0 (storedCount z) m (r .period .start) (pairs (first-two (eqb (r .«record_type») 4) (eqb (r .direction) direction) _ _ t)))
+        pick-elim Within (eqb (r .«record_type») 4 && eqb (r .direction) direction && leb (r .period .start .0) m && ltb m
+        (r .period .end .0))
+        (λ t. slot-level z 0 (storedCount z) m (r .period .start) (pairs (first-two (eqb (r .«record_type») 4) (eqb
+        (r .direction) direction) _ _ t)))
         (λ t. none-within)
       where
         r : Record
@@ -76,7 +80,8 @@ module _ (kind : ℕ) (range : PowerRange) where
       abbrev quiet : ℕ → Bool
       quiet i = slotWithin b i (counts i) direction kind range
 
-      among-quiet : (i n : ℕ) → all quiet (series (λ i. i) i n) ≡ true → Within (levelAmong (recordsAmong b counts i n) forcedWork direction m)
+      among-quiet : (i n : ℕ) → all quiet (series (λ i. i) i n) ≡ true
+          → Within (levelAmong (recordsAmong b counts i n) forcedWork direction m)
       unfolding levelAmong recordsAmong all series
       among-quiet i zero e = none-within
       among-quiet i (suc n) e =
@@ -93,7 +98,8 @@ module _ (kind : ℕ) (range : PowerRange) where
   -- what a level within its limits says of warnings 2 and 4
   module _ (l : Levels) (h : Within (l .forced)) where
     abbrev high : Bool
-    high = pick (eqb kind Z1) (ltb (range .max .0) (l .forced .power .0 + range .min .0)) (ltb (range .max .0) (l .forced .power .0))
+    high = pick (eqb kind Z1) (ltb (range .max .0) (l .forced .power .0 + range .min .0)) (ltb (range .max .0)
+        (l .forced .power .0))
 
     abbrev low : Bool
     low = (eqb kind W1 || eqb kind M1) && ltb (l .forced .power .0) (range .min .0)
@@ -120,13 +126,16 @@ module _ (kind : ℕ) (range : PowerRange) where
       swap true c d e = e
       swap false c d e = refl
 
-      by-case : (t : Bool) → l .forced .there ≡ t → (t && not (l .negative .there) && (eqb kind W1 || eqb kind M1) && ltb (l .forced .power .0) (range .min .0)) ≡ false
-      by-case true e = swap (not (l .negative .there)) (eqb kind W1 || eqb kind M1) (ltb (l .forced .power .0) (range .min .0)) (not-low e)
+      by-case : (t : Bool) → l .forced .there ≡ t
+          → (t && not (l .negative .there) && (eqb kind W1 || eqb kind M1) && ltb (l .forced .power .0) (range .min .0)) ≡ false
+      by-case true e = swap (not (l .negative .there)) (eqb kind W1 || eqb kind M1) (ltb (l .forced .power .0) (range .min .0))
+          (not-low e)
       by-case false e = refl
 
   module _ (b : List ℕ) (counted : List Bool) (direction start end : ℕ) where
     -- nothing is beyond the limits
-    pub warn-none : {t : Bool} → t ≡ forcedWithin b counted direction kind range → t ≡ true → record { above = false; below = false } ≡ levelWarnings kind range (countedRecords b counted) direction start end
+    pub warn-none : {t : Bool} → t ≡ forcedWithin b counted direction kind range → t ≡ true
+        → record { above = false; below = false } ≡ levelWarnings kind range (countedRecords b counted) direction start end
     unfolding forcedWithin levelWarnings levelsSome levelsAt
     warn-none p t =
         λ i. record {
@@ -138,15 +147,19 @@ module _ (kind : ℕ) (range : PowerRange) where
         forced m = among-quiet b direction m (λ i. getD counted i false) 0 8 (sym p ∙ t)
 
     -- a sweep found them
-    pub warn-swept : (s : List ℕ) {g : SweepResult} → g ≡ sweepResult kind range (sweptRecords b s counted false) direction start end → record { above = g .above; below = g .below } ≡ levelWarnings kind range (countedRecords b counted) direction start end
+    pub warn-swept : (s : List ℕ) {g : SweepResult}
+        → g ≡ sweepResult kind range (sweptRecords b s counted false) direction start end
+        → record { above = g .above; below = g .below } ≡ levelWarnings kind range (countedRecords b counted) direction start end
     unfolding levelWarnings sweepResult sweptRecords pick
     warn-swept s e = λ i. record { above = e i .above; below = e i .below }
 
   -- what the code finds of a slot
-  pub pair-tested : (z : List ℕ) {n j : ℕ} {p : Pair} {ok r : Bool} → Tested pair-within (pairAt z) n ok j → j < n → p ≡ pairAt z j → r ≡ powerWithin kind range (p .power .0) → Tested pair-within (pairAt z) n (ok && r) (j + 1)
+  pub pair-tested : (z : List ℕ) {n j : ℕ} {p : Pair} {ok r : Bool} → Tested pair-within (pairAt z) n ok j → j < n → p ≡ pairAt z j
+      → r ≡ powerWithin kind range (p .power .0) → Tested pair-within (pairAt z) n (ok && r) (j + 1)
   pair-tested z t l e q = tested-more t l (q ∙ ap pair-within e)
 
-  pub pairs-tested : (z : List ℕ) {n i : ℕ} {ok : Bool} → n ≡ storedCount z → Tested pair-within (pairAt z) n ok i → n ≤ i → ok ≡ pairsWithin z kind range
+  pub pairs-tested : (z : List ℕ) {n i : ℕ} {ok : Bool} → n ≡ storedCount z → Tested pair-within (pairAt z) n ok i → n ≤ i
+      → ok ≡ pairsWithin z kind range
   unfolding pairsWithin
   pairs-tested z e t h = tested-all t h ∙ ap (λ (k : ℕ). all pair-within (series (pairAt z) 0 k)) e
 
@@ -156,14 +169,16 @@ module _ (kind : ℕ) (range : PowerRange) where
     slot-uncounted n = sym (ap (λ (t : Bool). slotWithin b i t direction kind range) (not-true t n))
 
     module _ {z : List ℕ} {r : Record} (counts : not t ≡ false) (read : z ≡ slotAt b i) (fields : r ≡ recordIn z) where
-      asked : {v : Bool} → isForced r direction ≡ v → (not v || pairsWithin (slotAt b i) kind range) ≡ slotWithin b i t direction kind range
+      asked : {v : Bool} → isForced r direction ≡ v
+          → (not v || pairsWithin (slotAt b i) kind range) ≡ slotWithin b i t direction kind range
       unfolding slotWithin
       asked e =
           sym (ap (λ (v : Bool). not v || pairsWithin (slotAt b i) kind range) e)
           ∙ ap (λ (r : Record). not (isForced r direction) || pairsWithin (slotAt b i) kind range) (fields ∙ ap recordIn read)
           ∙ sym (ap (λ (t : Bool). slotWithin b i t direction kind range) (not-false t counts))
 
-      pub slot-judged : {ok : Bool} → isForced r direction ≡ true → ok ≡ pairsWithin z kind range → ok ≡ slotWithin b i t direction kind range
+      pub slot-judged : {ok : Bool} → isForced r direction ≡ true → ok ≡ pairsWithin z kind range
+          → ok ≡ slotWithin b i t direction kind range
       slot-judged e p = p ∙ ap (λ (z : List ℕ). pairsWithin z kind range) read ∙ asked e
 
       pub slot-left : isForced r direction ≡ false → true ≡ slotWithin b i t direction kind range

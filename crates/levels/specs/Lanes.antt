@@ -108,7 +108,8 @@ pub record Ended (types ends : List ℕ) (type from m : ℕ) : Type 0 where
 
 -- what is known of a type's level: it holds as long as it says
 pub record Known (b s : List ℕ) (types starts ends counts : List ℕ) (type m : ℕ) (track : Track) : Type 0 where
-  pub same : (k : ℕ) → m ≤ k → k < track .span .until .0 → levelAmongLanes b s (laneOfFields types starts ends counts) type 0 9 k ≡ track .span .level
+  pub same : (k : ℕ) → m ≤ k → k < track .span .until .0
+      → levelAmongLanes b s (laneOfFields types starts ends counts) type 0 9 k ≡ track .span .level
   pub ended : Ended types ends type (track .from) m
 
 pub record Tracked (b s : List ℕ) (types starts ends counts : List ℕ) (type m : ℕ) (track : Track) : Type 0 where

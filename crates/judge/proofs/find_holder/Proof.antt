@@ -13,10 +13,12 @@ abbrev μ-loop : tie.MeasureT-loop
 μ-loop b r i₀ i = 8 - i
 
 returns : tie.Need-returns Inv-loop μ-loop
-returns c = found-holder _ _ (sought-hit (c .before .before .before .loop .inv) (c .before .before .loop-test .taken) (sym (c .before .holds .ensures) ∙ c .if1 .taken))
+returns c = found-holder _ _ (sought-hit (c .before .before .before .loop .inv) (c .before .before .loop-test .taken) (sym
+    (c .before .holds .ensures) ∙ c .if1 .taken))
 
 loop-again : tie.Need-loop-again Inv-loop μ-loop
-loop-again c = sought-miss (c .before .before .before .loop .inv) (c .before .before .loop-test .taken) (sym (c .before .holds .ensures) ∙ c .if1 .left)
+loop-again c = sought-miss (c .before .before .before .loop .inv) (c .before .before .loop-test .taken) (sym
+    (c .before .holds .ensures) ∙ c .if1 .left)
 
 returns-2 : tie.Need-returns-2 Inv-loop μ-loop
 returns-2 c = found-holder _ _ (sought-all (c .before .loop .inv) (c .loop-test .left))

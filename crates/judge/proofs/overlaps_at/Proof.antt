@@ -4,7 +4,10 @@ use Rattle.judge.proofs.overlaps_at.Statement.{statement}
 use Rattle.judge.proofs.overlaps_at.Tie as tie
 
 returns : tie.Need-returns
-returns c = overlap-join _ (c .before .before .before .before .before .before .before .args .r) _ (c .before .before .before .before .before .slot-at .ensures) (c .before .before .before .before .record-in .ensures) (c .before .before .before .is-used .ensures) (c .before .before .one-stop-one-levelled .ensures) (c .before .directions-meet .ensures) (c .overlapping .ensures)
+returns c = overlap-join _ (c .before .before .before .before .before .before .before .args .r) _
+    (c .before .before .before .before .before .slot-at .ensures) (c .before .before .before .before .record-in .ensures)
+    (c .before .before .before .is-used .ensures) (c .before .before .one-stop-one-levelled .ensures)
+    (c .before .directions-meet .ensures) (c .overlapping .ensures)
 
 pub overlaps-at-spec : {M : Type 1} → statement M
 overlaps-at-spec =

@@ -6,13 +6,15 @@ use Rattle.judge.proofs.survey_slots.Statement.{statement}
 use Rattle.judge.proofs.survey_slots.Tie as tie
 
 abbrev Inv-loop : tie.InvT-loop
-Inv-loop b h slot changes others₀ closed₀ leaves₀ stays₀ i₀ others closed leaves stays i = Surveyed b h slot changes others closed leaves stays i
+Inv-loop b h slot changes others₀ closed₀ leaves₀ stays₀ i₀ others closed leaves stays i = Surveyed b h slot changes others closed
+    leaves stays i
 
 abbrev μ-loop : tie.MeasureT-loop
 μ-loop b h slot changes others₀ closed₀ leaves₀ stays₀ i₀ others closed leaves stays i = 8 - i
 
 loop-again : tie.Need-loop-again Inv-loop μ-loop
-loop-again c = surveyed-more _ _ _ _ (c .before .before .before .loop .inv) (c .before .before .loop-test .taken) (c .before .answers-at .ensures)
+loop-again c = surveyed-more _ _ _ _ (c .before .before .before .loop .inv) (c .before .before .loop-test .taken)
+    (c .before .answers-at .ensures)
 
 returns : tie.Need-returns Inv-loop μ-loop
 returns c = surveyed-all _ _ _ _ (c .before .loop .inv) (c .loop-test .left)

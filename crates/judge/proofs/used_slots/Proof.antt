@@ -18,7 +18,14 @@ abbrev μ-loop : tie.MeasureT-loop
 μ-loop b flags₀ i₀ flags i = 8 - i
 
 loop-again : tie.Need-loop-again Inv-loop μ-loop
-loop-again c = (omega arith, simp length-set (omega arith), filled-more (λ j. used (slotAt (c .before .before .before .before .before .args .b .now) j)) _ _ _ (c .before .before .before .loop .inv .2) (omega arith) (c .is-used .ensures ∙ ap used (c .before .slot-at .ensures) ∙ ap (λ (k : ℕ). used (slotAt (c .before .before .before .before .before .args .b .now) k)) (sym (zero-add (c .before .before .before .loop .i)))))
+loop-again c = (
+  omega arith,
+  simp length-set (omega arith),
+  filled-more (λ j. used (slotAt
+      (c .before .before .before .before .before .args .b .now) j)) _ _ _ (c .before .before .before .loop .inv .2) (omega arith)
+      (c .is-used .ensures ∙ ap used (c .before .slot-at .ensures) ∙ ap (λ (k : ℕ). used (slotAt
+      (c .before .before .before .before .before .args .b .now) k)) (sym (zero-add (c .before .before .before .loop .i)))),
+)
 
 returns : tie.Need-returns Inv-loop μ-loop
 returns c =

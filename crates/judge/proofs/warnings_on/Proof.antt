@@ -7,7 +7,9 @@ use Rattle.judge.proofs.warnings_on.Statement.{statement}
 use Rattle.judge.proofs.warnings_on.Tie as tie
 
 returns-2 : tie.Need-returns-2
-returns-2 c = all-warnings _ _ _ (c .before .before .before .before .before .if1 .left) (c .before .before .before .worth-of .ensures .0 ∙ ap (worth 1) (c .before .before .before .before .warns-overlap .ensures)) (c .before .worth-of2 .ensures .0) (c .minute-warnings .ensures .0)
+returns-2 c = all-warnings _ _ _ (c .before .before .before .before .before .if1 .left)
+    (c .before .before .before .worth-of .ensures .0 ∙ ap (worth 1) (c .before .before .before .before .warns-overlap .ensures))
+    (c .before .worth-of2 .ensures .0) (c .minute-warnings .ensures .0)
 
 pub warnings-on-spec : {M : Type 1} → statement M
 warnings-on-spec =

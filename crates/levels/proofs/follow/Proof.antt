@@ -5,7 +5,11 @@ use Rattle.levels.proofs.follow.Statement.{statement}
 use Rattle.levels.proofs.follow.Tie as tie
 
 returns-2 : tie.Need-returns-2
-returns-2 c = (tracked-anew _ _ _ _ _ _ _ (c .before .before .pass-ended .ensures) (c .level-from .ensures .0), c .level-from .ensures .1)
+returns-2 c = (
+  tracked-anew _ _ _ _ _ _ _ (c .before .before .pass-ended .ensures)
+      (c .level-from .ensures .0),
+  c .level-from .ensures .1,
+)
 
 pub follow-spec : {M : Type 1} → statement M
 follow-spec =

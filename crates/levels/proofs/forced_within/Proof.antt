@@ -9,7 +9,8 @@ use Rattle.levels.proofs.forced_within.Statement.{statement}
 use Rattle.levels.proofs.forced_within.Tie as tie
 
 abbrev Inv-loop : tie.InvT-loop
-Inv-loop b direction kind range counted ok₀ i₀ ok i = Tested (λ i. slotWithin b i (getD counted i false) direction kind range) (λ i. i) 8 ok i
+Inv-loop b direction kind range counted ok₀ i₀ ok i = Tested (λ i. slotWithin b i (getD counted i false) direction kind range)
+    (λ i. i) 8 ok i
 
 abbrev μ-loop : tie.MeasureT-loop
 μ-loop b direction kind range counted ok₀ i₀ ok i = 8 - i

@@ -7,7 +7,8 @@ use Rattle.levels.proofs.lanes_of.Statement.{statement}
 use Rattle.levels.proofs.lanes_of.Tie as tie
 
 abbrev Inv-loop : tie.InvT-loop
-Inv-loop b report swept direction types₀ starts₀ ends₀ counts₀ i₀ types starts ends counts i = Filled (laneAt b report swept direction) types starts ends counts i
+Inv-loop b report swept direction types₀ starts₀ ends₀ counts₀ i₀ types starts ends counts i = Filled
+    (laneAt b report swept direction) types starts ends counts i
 
 abbrev μ-loop : tie.MeasureT-loop
 μ-loop b report swept direction types₀ starts₀ ends₀ counts₀ i₀ types starts ends counts i = 9 - i

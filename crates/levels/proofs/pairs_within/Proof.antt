@@ -16,7 +16,8 @@ abbrev μ-loop : tie.MeasureT-loop
 μ-loop z kind range count ok₀ j₀ ok j = count - j
 
 loop-again : tie.Need-loop-again Inv-loop μ-loop
-loop-again c = pair-tested _ _ _ (c .before .before .before .loop .inv) (omega arith) (c .before .pair-at .ensures) (c .power-within .ensures)
+loop-again c = pair-tested _ _ _ (c .before .before .before .loop .inv) (omega arith) (c .before .pair-at .ensures)
+    (c .power-within .ensures)
 
 returns : tie.Need-returns Inv-loop μ-loop
 returns c = pairs-tested _ _ _ (c .before .before .stored-count .ensures) (c .before .loop .inv) (c .loop-test .left)

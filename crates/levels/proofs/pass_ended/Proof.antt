@@ -13,7 +13,8 @@ abbrev μ-loop : tie.MeasureT-loop
 μ-loop types ends record-type from m i₀ i = 9 - i
 
 loop-again : tie.Need-loop-again Inv-loop μ-loop
-loop-again c = ended-more _ _ _ (c .before .before .before .before .before .loop .inv) (c .before .before .before .before .loop-test .taken) (c .if1 .left)
+loop-again c = ended-more _ _ _ (c .before .before .before .before .before .loop .inv)
+    (c .before .before .before .before .loop-test .taken) (c .if1 .left)
 
 pub pass-ended-spec : {M : Type 1} → statement M
 pass-ended-spec =

@@ -8,7 +8,8 @@ returns : tie.Need-returns
 returns c = report-uncounted _ _ _ (c .before .if1 .taken) (c .no-lane .ensures)
 
 returns-2 : tie.Need-returns-2
-returns-2 c = report-counted _ _ _ (c .before .before .before .before .if1 .left) (c .before .before .before .head-of .ensures) (c .before .before .record-by .ensures) (c .lane-of .ensures)
+returns-2 c = report-counted _ _ _ (c .before .before .before .before .if1 .left) (c .before .before .before .head-of .ensures)
+    (c .before .before .record-by .ensures) (c .lane-of .ensures)
 
 pub report-lane-spec : {M : Type 1} → statement M
 report-lane-spec =

@@ -14,13 +14,16 @@ abbrev μ-loop : tie.MeasureT-loop
 μ-loop s in-report count place m j₀ j = count - j
 
 returns : tie.Need-returns Inv-loop μ-loop
-returns c = stepped-hit (c .before .before .before .before .before .before .before .loop .inv) (omega arith) (c .before .before .before .before .before .pair-of .ensures) (c .before .if1 .taken)
+returns c = stepped-hit (c .before .before .before .before .before .before .before .loop .inv) (omega arith)
+    (c .before .before .before .before .before .pair-of .ensures) (c .before .if1 .taken)
 
 loop-again : tie.Need-loop-again Inv-loop μ-loop
-loop-again c = passed-more (c .before .before .before .before .before .before .loop .inv) (omega arith) (c .before .before .before .before .pair-of .ensures) (c .if1 .left)
+loop-again c = passed-more (c .before .before .before .before .before .before .loop .inv) (omega arith)
+    (c .before .before .before .before .pair-of .ensures) (c .if1 .left)
 
 returns-2 : tie.Need-returns-2 Inv-loop μ-loop
-returns-2 c = stepped-all (c .before .before .loop .inv) (omega arith) (c .none-until .ensures .0) (c .none-until .ensures .1) (omega arith)
+returns-2 c = stepped-all (c .before .before .loop .inv) (omega arith) (c .none-until .ensures .0) (c .none-until .ensures .1)
+    (omega arith)
 
 pub step-among-spec : {M : Type 1} → statement M
 step-among-spec =

@@ -11,7 +11,11 @@ returns : tie.Need-returns
 returns c = first-stepped _ _ (c .before .if1 .taken) _ (c .level-in .ensures)
 
 level-in-requires-2 : tie.Need-level-in-requires-2
-level-in-requires-2 c κs = (c .before .before .before .before .pre .0, slot-passed _ _ (c .before .if1 .left) (c .slot-at .ensures) (c .before .before .before .before .pre .1))
+level-in-requires-2 c κs = (
+  c .before .before .before .before .pre .0,
+  slot-passed _ _ (c .before .if1 .left) (c .slot-at .ensures)
+      (c .before .before .before .before .pre .1),
+)
 
 returns-2 : tie.Need-returns-2
 returns-2 c = slot-stepped _ _ (c .before .before .if1 .left) (c .before .slot-at .ensures) _ (c .level-in2 .ensures)

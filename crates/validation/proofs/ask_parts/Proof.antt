@@ -14,7 +14,10 @@ abbrev μ-loop : tie.MeasureT-loop
     k - i
 
 loop-again : tie.Need-loop-again Inv-loop μ-loop
-loop-again c = over-more (c .before .before .before .before .before .before .loop .inv) (c .before .before .before .before .before .loop-test .taken) (c .before .before .before .before .part-at .ensures) (c .before .before .before .part-is-times .ensures) (c .before .before .part-is-on-quarter .ensures) (c .before .is-signed-power .ensures) (c .derating-fits .ensures)
+loop-again c = over-more (c .before .before .before .before .before .before .loop .inv)
+    (c .before .before .before .before .before .loop-test .taken) (c .before .before .before .before .part-at .ensures)
+    (c .before .before .before .part-is-times .ensures) (c .before .before .part-is-on-quarter .ensures)
+    (c .before .is-signed-power .ensures) (c .derating-fits .ensures)
 
 pub ask-parts-spec : {M : Type 1} → statement M
 ask-parts-spec =

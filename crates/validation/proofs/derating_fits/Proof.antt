@@ -5,7 +5,8 @@ use Rattle.validation.proofs.derating_fits.Statement.{statement}
 use Rattle.validation.proofs.derating_fits.Tie as tie
 
 returns : tie.Need-returns
-returns c = derating-join _ _ _ (c .before .before .before .size-of .ensures) (c .before .before .wide .ensures .0) (c .before .wide2 .ensures .0) (c .wide3 .ensures .0)
+returns c = derating-join _ _ _ (c .before .before .before .size-of .ensures) (c .before .before .wide .ensures .0)
+    (c .before .wide2 .ensures .0) (c .wide3 .ensures .0)
 
 pub derating-fits-spec : {M : Type 1} → statement M
 derating-fits-spec =

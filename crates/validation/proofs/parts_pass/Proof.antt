@@ -8,7 +8,8 @@ returns : tie.Need-returns
 returns c = no-parts _ _ (c .before .before .before .part-count .ensures) (c .before .is-levelled .ensures) (c .if1 .taken)
 
 returns-2 : tie.Need-returns-2
-returns-2 c = parts-asked _ _ (c .before .before .before .before .part-count .ensures) (c .before .before .is-levelled .ensures) (c .before .if1 .left) (c .parts-cover .ensures)
+returns-2 c = parts-asked _ _ (c .before .before .before .before .part-count .ensures) (c .before .before .is-levelled .ensures)
+    (c .before .if1 .left) (c .parts-cover .ensures)
 
 pub parts-pass-spec : {M : Type 1} → statement M
 parts-pass-spec =

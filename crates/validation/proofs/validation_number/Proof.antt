@@ -5,7 +5,21 @@ use Rattle.validation.proofs.validation_number.Statement.{statement}
 use Rattle.validation.proofs.validation_number.Tie as tie
 
 returns : tie.Need-returns
-returns c = in-order _ _ _ (c .before .before .before .before .before .before .before .before .before .before .before .before .before .before .record-by .ensures) (fields-join _ _ (c .before .before .before .before .before .before .before .before .before .before .before .before .before .head-passes .ensures) (c .before .before .before .before .before .before .before .before .before .before .before .before .before .before .before .before .pre .times)) (c .before .before .kind-allows .ensures) (c .before .before .before .before .before .times-are-consistent .ensures) (quarters-join _ _ (c .before .before .before .before .before .before .before .before .before .before .head-is-on-quarters .ensures) (c .before .before .before .before .before .before .before .before .before .before .before .before .before .before .before .before .pre .on-quarters)) (c .before .before .before .before .before .before .before .before .parts-pass .ensures) (c .before .before .before .before .before .before .before .before .before .before .before .before .before .before .before .before .pre .powers) (c .before .before .before .before .before .before .before .ask .ensures) (c .before .before .before .before .before .before .ask2 .ensures) (c .before .before .before .before .ask3 .ensures) (c .before .before .before .ask4 .ensures) (c .before .ask5 .ensures) (c .ask6 .ensures)
+returns c = in-order _ _ _
+    (c .before .before .before .before .before .before .before .before .before .before .before .before .before .before .record-by
+    .ensures) (fields-join _ _
+    (c .before .before .before .before .before .before .before .before .before .before .before .before .before .head-passes
+    .ensures)
+    (c .before .before .before .before .before .before .before .before .before .before .before .before .before .before .before
+    .before .pre .times)) (c .before .before .kind-allows .ensures)
+    (c .before .before .before .before .before .times-are-consistent .ensures) (quarters-join _ _
+    (c .before .before .before .before .before .before .before .before .before .before .head-is-on-quarters .ensures)
+    (c .before .before .before .before .before .before .before .before .before .before .before .before .before .before .before
+    .before .pre .on-quarters)) (c .before .before .before .before .before .before .before .before .parts-pass .ensures)
+    (c .before .before .before .before .before .before .before .before .before .before .before .before .before .before .before
+    .before .pre .powers) (c .before .before .before .before .before .before .before .ask .ensures)
+    (c .before .before .before .before .before .before .ask2 .ensures) (c .before .before .before .before .ask3 .ensures)
+    (c .before .before .before .ask4 .ensures) (c .before .ask5 .ensures) (c .ask6 .ensures)
 
 pub validation-number-spec : {M : Type 1} → statement M
 validation-number-spec =
