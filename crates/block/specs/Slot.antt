@@ -1,5 +1,5 @@
 -- Question 1 of a used slot, as one pass over its pairs asks it: proofs/Pairs.antt shows that it is what paper 01 asks.
-use Prim.Native.Nat.{ℕ, zero, suc, _+_, _*_}
+use Prim.Native.Nat.{ℕ, zero, suc, _+_, _*_, _≤_, _<_}
 use mathlib.Core.List.{List, [], _∷_}
 use mathlib.Core.Bool.{Bool, not, _&&_, _||_}
 use lib.Dec.{leb, ltb, eqb}
@@ -23,6 +23,15 @@ unfoldable pub pairsRise : List ℕ → ℕ → ℕ → ℕ → ℕ → Bool
 pairsRise z at zero start end = eqb start end
 pairsRise z at (suc n) start end =
     (ltb start (u32At z at) && leb (u32At z (at + 4)) highestPower) && pairsRise z (at + 8) n (u32At z at) end
+
+-- the part ends alone
+unfoldable pub endsRise : List ℕ → ℕ → ℕ → ℕ → ℕ → Bool
+endsRise z at zero start end = eqb start end
+endsRise z at (suc n) start end = ltb start (u32At z at) && endsRise z (at + 8) n (u32At z at) end
+
+-- no power of the first k pairs is above the bound
+pub record PowersWithin (z : List ℕ) (k bound : ℕ) : Type 0 where
+  pub at : (j : ℕ) → j < k → u32At z (88 + 8 * j + 4) ≤ bound
 
 -- what is asked of a record in a slot, but for its parts
 unfoldable pub holdsAlone : ℕ → Minute → Record → Bool

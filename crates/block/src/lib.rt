@@ -29,12 +29,18 @@ ghost use Rattle.fields.specs.Lists.{all, series, part};
 ghost use Rattle.rules.specs.Roster.{powersAt, entryOf, entryGood, piece, rosterGood};
 ghost use Rattle.rules.specs.Block.{zeros, zerosAt, unitHead, slotAt, used, recordIn, storedCount};
 ghost use Rattle.rules.specs.Whole.{recordsApart, slotWhole, slotsApart, blockWhole, registerWhole};
-ghost use Rattle.block.specs.Slot.{pairAt, pairsRise, holdsAlone, headWhole};
+ghost use Rattle.block.specs.Slot.{pairAt, endsRise, PowersWithin, pairsRise, holdsAlone, headWhole};
 
 // Where a part in a slot ends, and its power.
 pub struct Pair {
     pub end: Minute,
     pub power: Kilowatt,
+}
+
+// What one pass over the pairs finds.
+pub struct EndsFound {
+    pub rise: bool,
+    pub bound: u32,
 }
 
 // The n bytes from `at` on; what would lie past the end is left out.
@@ -94,79 +100,26 @@ pub fn entry_of(s: &[u8]) -> RosterEntry
     }
 }
 
-// u16_at and u32_at where the bytes are there: loads and no test.
-fn u16_in(s: &[u8], at: usize) -> u16
-    requires { ⌜ at + 2 ≤ length (now s) ⌝ }
-    ensures { λ r. ⌜ r ≡ u16At (now (s .entry)) at ⌝ }
-{
-    fields::u16_of(s[at], s[at + 1])
-}
-
-fn u32_in(s: &[u8], at: usize) -> u32
-    requires { ⌜ at + 4 ≤ length (now s) ⌝ }
-    ensures { λ r. ⌜ r ≡ u32At (now (s .entry)) at ⌝ }
-{
-    fields::u32_of(s[at], s[at + 1], s[at + 2], s[at + 3])
-}
-
-// unit_head and record_in where the bytes are known to be there: loads without a test each.
-fn read_unit_head(b: &[u8]) -> UnitHead
-    requires { ⌜ 36 ≤ length (now b) ⌝ }
+pub fn unit_head(b: &[u8]) -> UnitHead
     ensures { λ r. ⌜ r ≡ unitHead (now (b .entry)) ⌝ }
 {
-    let since = Minute(u32_in(b, 12));
+    let head = fields::first48(b);
+    let since = minute_at(&head, 12);
     let row = Row {
-        state: b[7],
-        qualification: b[8],
+        state: head[7],
+        qualification: head[8],
         since,
     };
-    let last_stamp = Minute(u32_in(b, 16));
-    let powers = powers_at(b, 20);
+    let last_stamp = minute_at(&head, 16);
+    let powers = powers_at(&head, 20);
     UnitHead {
-        unit: u16_in(b, 2),
-        owner: u16_in(b, 4),
-        kind: b[6],
+        unit: u16_at(&head, 2),
+        owner: u16_at(&head, 4),
+        kind: head[6],
         row,
         last_stamp,
         powers,
     }
-}
-
-fn identifier_in(z: &[u8]) -> [u8; 16]
-    requires { ⌜ 36 ≤ length (now z) ⌝ }
-    ensures { λ r. ⌜ r ≡ series (u8At (now (z .entry))) 8 16 ⌝ }
-{
-    fields::first16(&z[8..24])
-}
-
-fn read_record(z: &[u8]) -> Record
-    requires { ⌜ 36 ≤ length (now z) ⌝ }
-    ensures { λ r. ⌜ r ≡ recordIn (now (z .entry)) ⌝ }
-{
-    let identifier = identifier_in(z);
-    let stamp = Minute(u32_in(z, 24));
-    let start = Minute(u32_in(z, 28));
-    let end = Minute(u32_in(z, 32));
-    let period = Period { start, end };
-    Record {
-        record_type: z[2],
-        direction: z[3],
-        qualification: z[4],
-        start_mark: z[5],
-        ordinal: u16_in(z, 6),
-        identifier,
-        stamp,
-        period,
-    }
-}
-
-pub fn unit_head(b: &[u8]) -> UnitHead
-    ensures { λ r. ⌜ r ≡ unitHead (now (b .entry)) ⌝ }
-{
-    if 36 <= b.len() {
-        return read_unit_head(b);
-    }
-    read_unit_head(&fields::first48(b))
 }
 
 // Slot i, from 0.
@@ -185,16 +138,34 @@ pub fn is_used(z: &[u8]) -> bool
 pub fn record_in(z: &[u8]) -> Record
     ensures { λ r. ⌜ r ≡ recordIn (now (z .entry)) ⌝ }
 {
-    if 36 <= z.len() {
-        return read_record(z);
+    let slot = fields::first48(z);
+    let identifier = fields::first16(&slot[8..24]);
+    let stamp = minute_at(&slot, 24);
+    let period = quantities::period_at(&slot, 28);
+    Record {
+        record_type: slot[2],
+        direction: slot[3],
+        qualification: slot[4],
+        start_mark: slot[5],
+        ordinal: u16_at(&slot, 6),
+        identifier,
+        stamp,
+        period,
     }
-    read_record(&fields::first48(z))
 }
 
 pub fn stored_count(z: &[u8]) -> u16
     ensures { λ r. ⌜ r ≡ storedCount (now (z .entry)) ⌝ }
 {
     u16_at(z, 36)
+}
+
+// u32_at where the bytes are there: a load and no test.
+fn u32_in(s: &[u8], at: usize) -> u32
+    requires { ⌜ at + 4 ≤ length (now s) ⌝ }
+    ensures { λ r. ⌜ r ≡ u32At (now (s .entry)) at ⌝ }
+{
+    fields::u32_of(s[at], s[at + 1], s[at + 2], s[at + 3])
 }
 
 // Pair j of a slot, from 0.
@@ -229,6 +200,30 @@ pub fn zeros_at(s: &[u8], at: usize, n: usize) -> bool
     all_zero(slice_at(s, at, n))
 }
 
+// Whether the part ends rise from the period's start to its end, and a number that no power is above. Compared as signed
+// numbers, which takes fewer instructions; a time is below 2 to the 31.
+fn ends_rise(z: &[u8], k: u16, period: Period) -> EndsFound
+    requires { ⌜ 88 + 8 * k ≤ length (now z) ⌝ }
+    requires { ⌜ (period .start .0 < 2147483648) × (period .end .0 < 2147483648) ⌝ }
+    ensures { λ r. ⌜ r .rise ≡ endsRise (now (z .entry)) 88 k (period .start .0) (period .end .0) ⌝ }
+    ensures { λ r. ⌜ PowersWithin (now (z .entry)) k (r .bound) ⌝ }
+{
+    let mut rise = true;
+    let mut bound = 0u32;
+    let mut start = fields::i32_of(period.start.0);
+    for i in 0..k {
+        let at = 88 + 8 * (i as usize);
+        let end = fields::i32_of(u32_in(z, at));
+        bound = bound | u32_in(z, at + 4);
+        rise = rise & (start < end);
+        start = end;
+    }
+    EndsFound {
+        rise: rise & (start == fields::i32_of(period.end.0)),
+        bound,
+    }
+}
+
 // The part ends rise from the period's start to its end, and every power is in range.
 fn pairs_rise(z: &[u8], k: u16, period: Period) -> bool
     requires { ⌜ 88 + 8 * k ≤ length (now z) ⌝ }
@@ -244,6 +239,19 @@ fn pairs_rise(z: &[u8], k: u16, period: Period) -> bool
         start = end;
     }
     ok & (start.0 == period.end.0)
+}
+
+// The same by one pass where the powers' bound is a power, as a rule.
+fn pairs_fit(z: &[u8], k: u16, period: Period) -> bool
+    requires { ⌜ 88 + 8 * k ≤ length (now z) ⌝ }
+    requires { ⌜ (period .start .0 < 2147483648) × (period .end .0 < 2147483648) ⌝ }
+    ensures { λ r. ⌜ r ≡ pairsRise (now (z .entry)) 88 k (period .start .0) (period .end .0) ⌝ }
+{
+    let found = ends_rise(z, k, period);
+    if found.bound <= 99999999 {
+        return found.rise;
+    }
+    pairs_rise(z, k, period)
 }
 
 // What question 1 asks of a record, but for its parts.
@@ -269,14 +277,15 @@ fn slot_whole(kind: u8, last: Minute, z: &[u8]) -> bool
             return false;
         }
         let r = record_in(z);
+        if !holds_alone(kind, last, r) {
+            return false;
+        }
         let from = 88 + 8 * (k as usize);
-        return holds_alone(kind, last, r)
-            & choose(
-                is_levelled(r.record_type),
-                (1 <= k) & pairs_rise(z, k, r.period),
-                k == 0,
-            )
-            & zeros_at(z, 38, 50)
+        return choose(
+            is_levelled(r.record_type),
+            (1 <= k) & pairs_fit(z, k, r.period),
+            k == 0,
+        ) & zeros_at(z, 38, 50)
             & zeros_at(z, from, 888 - from);
     }
     all_zero(z)
