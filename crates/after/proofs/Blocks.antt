@@ -125,7 +125,7 @@ module _ (b s : List ℕ) (plan : Plan) where
       made-length t u z l =
           let n : length (partsOf s) ≤ 100 = omega (arith, series-length (partAt s) 0 (partCount s)) in
           pick-elim (λ (x : List ℕ). length x ≡ slotSize) t (λ e. slot-length (recordOf s) (partsOf s) (u8At s) 16 refl n)
-          (λ e. pick-elim (λ (x : List ℕ). length x ≡ slotSize) u (λ q. l) (λ q. zeros-length slotSize))
+          (λ e. pick-elim (λ (x : List ℕ). length x ≡ slotSize) u (λ q. zeros-length slotSize) (λ q. l))
 
       mixed-length : (i v : ℕ) → v < slotCount → length (mixed i v) ≡ slotSize
       unfolding mixed
@@ -160,15 +160,15 @@ module _ (b s : List ℕ) (plan : Plan) where
           same j w d l r = ⊎-elim (λ a. mixed-below j w a ∙ sym (mixed-below (j + 1) w (omega arith))) (λ a. mixed-above j w a ∙ sym (mixed-above (j + 1) w (omega arith))) (lt-or-le w j)
 
       -- one slot more
-      pub progress-more : (c : List ℕ) (i : ℕ) → c ≡ progress i → i < slotCount → put c (headSize + slotSize * i) (slotMade s (eqb i (plan .written)) (getD (plan .keep) i false) (part c (headSize + slotSize * i) slotSize)) ≡ progress (i + 1)
+      pub progress-more : (c : List ℕ) (i : ℕ) → c ≡ progress i → i < slotCount → put c (headSize + slotSize * i) (slotMade s (eqb i (plan .written)) (getD (plan .cleared) i false) (part c (headSize + slotSize * i) slotSize)) ≡ progress (i + 1)
       progress-more c i e h =
           rw (e, slot-yet i h) (slot-put-in i h)
 
       -- what the loop's turn leaves, the slot lent and given back as vs
-      pub slot-turned : (c vs : List ℕ) (i : ℕ) → c ≡ progress i → i < slotCount → length vs ≡ length (take (headSize + slotSize * i + slotSize - (headSize + slotSize * i)) (drop (headSize + slotSize * i) c)) → vs ≡ slotMade s (eqb i (plan .written)) (getD (plan .keep) i false) (take (headSize + slotSize * i + slotSize - (headSize + slotSize * i)) (drop (headSize + slotSize * i) c)) → take (headSize + slotSize * i) c ++ (vs ++ drop (headSize + slotSize * i + slotSize - (headSize + slotSize * i)) (drop (headSize + slotSize * i) c)) ≡ progress (i + 1)
+      pub slot-turned : (c vs : List ℕ) (i : ℕ) → c ≡ progress i → i < slotCount → length vs ≡ length (take (headSize + slotSize * i + slotSize - (headSize + slotSize * i)) (drop (headSize + slotSize * i) c)) → vs ≡ slotMade s (eqb i (plan .written)) (getD (plan .cleared) i false) (take (headSize + slotSize * i + slotSize - (headSize + slotSize * i)) (drop (headSize + slotSize * i) c)) → take (headSize + slotSize * i) c ++ (vs ++ drop (headSize + slotSize * i + slotSize - (headSize + slotSize * i)) (drop (headSize + slotSize * i) c)) ≡ progress (i + 1)
       slot-turned c vs i e h l f =
           let n : length c ≡ blockSize = ap length e ∙ progress-length i in
-          lent-back (slotMade s (eqb i (plan .written)) (getD (plan .keep) i false)) c (headSize + slotSize * i) slotSize vs (omega arith) l f
+          lent-back (slotMade s (eqb i (plan .written)) (getD (plan .cleared) i false)) c (headSize + slotSize * i) slotSize vs (omega arith) l f
           ∙ progress-more c i e h
 
 -- the length of a part that is lent

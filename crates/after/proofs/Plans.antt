@@ -12,18 +12,18 @@ use Rattle.fields.specs.Lists.{pick, series, part}
 use Rattle.fields.proofs.Bools.{and-right}
 use Rattle.fields.proofs.Joined.{joined-same}
 use Rattle.fields.proofs.Tests.{series-at}
-use Rattle.report.specs.Report.{headOf, partCount}
+use Rattle.report.specs.Report.{headOf, partsOf, partCount}
 use Rattle.rules.specs.declared.Row.{Row}
-use Rattle.rules.specs.Block.{headSize, unitHead, slotCount, blockSize}
+use Rattle.rules.specs.Block.{headSize, slotSize, slotCount, blockSize, zeros, unitHead, slotAt, used}
 use Rattle.rules.specs.Codes.{W1, create, change, withdraw}
 use Rattle.rules.specs.Records.{begun, holdsState}
-use Rattle.rules.specs.Questions.{recordOf, isEvent, isWithdrawal, isOperation, stampOf, heldRecord, begins, changesState, hasTransition, stays, question18}
-use Rattle.rules.specs.After.{rowAfter, headAfter, slotWritten, slotAfter, blockAfter}
+use Rattle.rules.specs.Questions.{recordOf, isEvent, isWithdrawal, isOperation, stampOf, heldRecord, begins, changesState, hasTransition, live, stays, question18}
+use Rattle.rules.specs.After.{rowAfter, headAfter, slotBytes, slotWritten, cleared, slotAfter, blockAfter}
 use Rattle.rules.specs.Judge.{refusalNumber}
 use Rattle.rules.proofs.Afterwards.{event-creates}
 use Rattle.rules.proofs.Passed.{Passed, passed}
 use Rattle.after.specs.declared.Plan.{Plan}
-use Rattle.after.specs.Plan.{slotMade, slotPlanned, rowPlanned, headMade, headPlanned, planApplied}
+use Rattle.after.specs.Plan.{FreeSlots, slotMade, slotPlanned, rowPlanned, headMade, headPlanned, planApplied}
 
 -- question 18 said "yes" to an accepted report that changes the state, so the event step moves the row
 module _ (b s : List ℕ) (p : Passed b s) (changes : changesState b s ≡ true) where
@@ -60,16 +60,34 @@ module _ (b s : List ℕ) (plan : Plan) where
   unfolding headMade headAfter
   head-same p c = rw c (rows-same p (changesState b s) refl)
 
-  slot-same : plan .keep ≡ series (stays b s) 0 8 → plan .written ≡ slotWritten b s → (v : ℕ) → v < 8 → slotPlanned b s plan v ≡ slotAfter b s v
-  unfolding slotMade slotAfter
-  slot-same k w v h =
-      let e : getD (plan .keep) v false ≡ stays b s v =
-      ap (λ (l : List Bool). getD l v false) k ∙ series-at (stays b s) 0 8 v false h ∙ ap (stays b s) (zero-add v) in
-      rw (w, e) refl
+  stays-used : (v : ℕ) → used (slotAt b v) ≡ false → false ≡ stays b s v
+  unfolding stays live
+  stays-used v e = rw e
 
-  pub plan-after : length b ≡ blockSize → partCount s ≤ 100 → plan .keep ≡ series (stays b s) 0 8 → plan .written ≡ slotWritten b s → plan .changes ≡ changesState b s → refusalNumber b s ≡ 0 → planApplied b s plan ≡ blockAfter b s
+  -- a free slot has zeros already, and nothing stays in it
+  slot-left : FreeSlots b → (v : ℕ) → v < slotCount → (u t : Bool) → used (slotAt b v) ≡ u → stays b s v ≡ t
+      → pick (u && not t) (zeros slotSize) (slotAt b v) ≡ pick t (slotAt b v) (zeros slotSize)
+  unfolding pick
+  slot-left free v h true true e f = refl
+  slot-left free v h true false e f = refl
+  slot-left free v h false false e f = free .zero v h e
+  slot-left free v h false true e f = absurd (false≢true (stays-used v e ∙ f))
+
+  slot-same : FreeSlots b → plan .cleared ≡ series (cleared b s) 0 slotCount → plan .written ≡ slotWritten b s → (v : ℕ)
+      → v < slotCount → slotPlanned b s plan v ≡ slotAfter b s v
+  unfolding slotMade slotAfter
+  slot-same free k w v h =
+      let e : getD (plan .cleared) v false ≡ cleared b s v =
+      ap (λ (l : List Bool). getD l v false) k ∙ series-at (cleared b s) 0 slotCount v false h ∙ ap (cleared b s) (zero-add v) in
+      rw (w, e)
+      (ap (λ (z : List ℕ). pick (eqb v (slotWritten b s)) (slotBytes (recordOf s) (partsOf s)) z)
+      (slot-left free v h (used (slotAt b v)) (stays b s v) refl refl))
+
+  pub plan-after : length b ≡ blockSize → FreeSlots b → partCount s ≤ 100 → plan .cleared ≡ series (cleared b s) 0 slotCount
+      → plan .written ≡ slotWritten b s → plan .changes ≡ changesState b s → refusalNumber b s ≡ 0
+      → planApplied b s plan ≡ blockAfter b s
   unfolding planApplied blockAfter pick
-  plan-after size few k w c zero-now =
+  plan-after size free few k w c zero-now =
       rw (eq-eqb (length b) blockSize size, le-leb (partCount s) 100 few, head-same (passed b s zero-now) c)
       (ap (λ (l : List ℕ). headAfter b s ++ l)
-      (joined-same (slotPlanned b s plan) (slotAfter b s) 0 slotCount (λ v l r. slot-same k w v (omega arith))))
+      (joined-same (slotPlanned b s plan) (slotAfter b s) 0 slotCount (λ v l r. slot-same free k w v (omega arith))))

@@ -7,7 +7,6 @@ use native.Mathlib.Omega.{arith}
 use native.Mathlib.Nat.{zero-add}
 use lib.ListN.{length, drop, length-append, length-replicate}
 use lib.Seq.{sets-eq, take-at, drop-at, drop-drop}
-use borrow.Author.Tests.{not-true, not-false}
 use Rattle.fields.specs.Fields.{u8At, bytesOf}
 use Rattle.fields.specs.Lists.{pick, series, put}
 use Rattle.fields.proofs.Slices.{put-append, series-snoc}
@@ -153,17 +152,18 @@ slot-written s z {a} {b} {c} {d} {e} {h} f g i j k m l few =
     m ∙ rw (k, j, i, g, l, f) (slot-put s few)
 
 -- the three ways of a slot
-pub made-written : (s : List ℕ) (kept : Bool) (z : List ℕ) {t : Bool} {x : List ℕ} → t ≡ true → x ≡ slotBytes (recordOf s) (partsOf s) → x ≡ slotMade s t kept z
+pub made-written : (s : List ℕ) (cleared : Bool) (z : List ℕ) {t : Bool} {x : List ℕ} → t ≡ true → x ≡ slotBytes (recordOf s) (partsOf s) → x ≡ slotMade s t cleared z
 unfolding slotMade pick
-made-written s kept z e f = rw e f
+made-written s cleared z e f = rw e f
 
-pub made-kept : (s z : List ℕ) (kept : Bool) {t : Bool} → t ≡ false → not kept ≡ false → z ≡ slotMade s t kept z
+pub made-kept : (s z : List ℕ) (cleared : Bool) {t : Bool} → t ≡ false → cleared ≡ false → z ≡ slotMade s t cleared z
 unfolding slotMade pick
-made-kept s z kept {t} e f = rw (e, not-false kept f) refl
+made-kept s z cleared e f = rw (e, f) refl
 
-pub made-zeros : (s z : List ℕ) (kept : Bool) {t : Bool} {x : List ℕ} → length z ≡ 888 → t ≡ false → not kept ≡ true → x ≡ zeros (length z) → x ≡ slotMade s t kept z
+pub made-zeros : (s z : List ℕ) (cleared : Bool) {t : Bool} {x : List ℕ} → length z ≡ slotSize → t ≡ false → cleared ≡ true
+    → x ≡ zeros (length z) → x ≡ slotMade s t cleared z
 unfolding slotMade pick
-made-zeros s z kept {t} l e f g = g ∙ rw (e, not-true kept f, l) refl
+made-zeros s z cleared l e f g = g ∙ rw (e, f, l) refl
 
 pub head-few : (s : List ℕ) {h : Head} → h ≡ headOf s → partCount s ≤ 100 → h .«part_count» ≤ 100
 head-few s e few = rw e few

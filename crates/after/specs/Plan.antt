@@ -1,5 +1,6 @@
 -- What is decided of a block before it is written, and the block that this gives.
-use Prim.Native.Nat.{ℕ}
+use Prim.Native.Nat.{ℕ, _<_}
+use mathlib.Core.Path.{_≡_}
 use mathlib.Core.List.{List, [], _∷_, _++_}
 use mathlib.Core.Bool.{Bool, false, _&&_}
 use lib.Dec.{leb, eqb}
@@ -10,11 +11,15 @@ use Rattle.report.specs.declared.Head.{Head}
 use Rattle.report.specs.declared.Part.{Part}
 use Rattle.report.specs.Report.{headOf, partsOf, partCount}
 use Rattle.rules.specs.declared.Row.{Row}
-use Rattle.rules.specs.Block.{headSize, slotSize, slotCount, blockSize, slotMark, zeros, unitHead, slotAt}
+use Rattle.rules.specs.Block.{headSize, slotSize, slotCount, blockSize, slotMark, zeros, unitHead, slotAt, used}
 use Rattle.rules.specs.Questions.{recordOf, stampOf, kilowatts}
 use Rattle.rules.specs.After.{putRow, slotBytes}
 use Rattle.row.specs.Step.{rowStepped}
 use Rattle.after.specs.declared.Plan.{Plan}
+
+-- a whole block's free slots are zeros
+pub record FreeSlots (b : List ℕ) : Type 0 where
+  pub zero : (i : ℕ) → i < slotCount → used (slotAt b i) ≡ false → slotAt b i ≡ zeros slotSize
 
 -- bytes 0 to 7 of a slot, and 24 to 37
 unfoldable pub codesBytes : Head → List ℕ
@@ -29,12 +34,12 @@ timesBytes h =
 unfoldable pub pairOf : Part → List ℕ
 pairOf p = bytesOf 4 (p .period .end .0) ++ bytesOf 4 (kilowatts p)
 
--- a slot z that is written, kept or set to zeros
+-- a slot z that is written, cleared or left as it is
 unfoldable pub slotMade : List ℕ → Bool → Bool → List ℕ → List ℕ
-slotMade s written kept z = pick written (slotBytes (recordOf s) (partsOf s)) (pick kept z (zeros slotSize))
+slotMade s written cleared z = pick written (slotBytes (recordOf s) (partsOf s)) (pick cleared (zeros slotSize) z)
 
 abbrev pub slotPlanned : List ℕ → List ℕ → Plan → ℕ → List ℕ
-slotPlanned b s plan i = slotMade s (eqb i (plan .written)) (getD (plan .keep) i false) (slotAt b i)
+slotPlanned b s plan i = slotMade s (eqb i (plan .written)) (getD (plan .cleared) i false) (slotAt b i)
 
 -- a head with its last stamp and, at a state change, its row
 unfoldable pub headMade : List ℕ → Bool → Row → ℕ → List ℕ

@@ -16,9 +16,9 @@ ghost use Rattle.rules.specs.Questions.{recordOf};
 ghost use Rattle.rules.specs.After.{putRow, pairBytes, slotBytes};
 ghost use Rattle.after.specs.Plan.{codesBytes, timesBytes, pairOf, slotMade, rowPlanned, headMade, slotsPlanned, planApplied};
 
-// The slots that keep their record, the slot written (8: none), and whether the row changes.
+// The slots that are cleared, the slot written (8: none), and whether the row changes.
 pub struct Plan {
-    pub keep: [bool; 8],
+    pub cleared: [bool; 8],
     pub written: u8,
     pub changes: bool,
 }
@@ -83,14 +83,14 @@ fn write_slot(z: &mut [u8], report: &[u8])
     put_pairs(z, report, h.part_count);
 }
 
-fn set_slot(z: &mut [u8], report: &[u8], written: bool, kept: bool)
+fn set_slot(z: &mut [u8], report: &[u8], written: bool, cleared: bool)
     requires { ⌜ length (now z) ≡ 888 ⌝ }
     requires { ⌜ partCount (now report) ≤ 100 ⌝ }
-    ensures { λ _. ⌜ now (z .exit) ≡ slotMade (now (report .entry)) written kept (now (z .entry)) ⌝ }
+    ensures { λ _. ⌜ now (z .exit) ≡ slotMade (now (report .entry)) written cleared (now (z .entry)) ⌝ }
 {
     if written {
         write_slot(z, report);
-    } else if !kept {
+    } else if cleared {
         block::clear(z);
     }
 }
@@ -107,7 +107,7 @@ fn set_slots(b: &mut [u8], report: &[u8], plan: Plan)
             &mut b[a..e],
             report,
             i == plan.written,
-            plan.keep[i as usize],
+            plan.cleared[i as usize],
         );
     }
 }

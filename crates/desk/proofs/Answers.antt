@@ -14,7 +14,7 @@ use Rattle.fields.proofs.Slices.{part-lent, lent-back}
 use Rattle.report.specs.declared.Head.{Head}
 use Rattle.report.specs.Report.{headOf, partCount, whole}
 use Rattle.rules.specs.declared.Answer.{Answer}
-use Rattle.rules.specs.After.{slotWritten, blockAfter, someSlot, warnings}
+use Rattle.rules.specs.After.{slotWritten, cleared, blockAfter, someSlot, warnings}
 use Rattle.rules.specs.Questions.{changesState, leaves, stays}
 use Rattle.rules.specs.Judge.{Verdict, refusal, refusalNumber, judge}
 use Rattle.rules.specs.declared.UnitHead.{UnitHead}
@@ -26,7 +26,7 @@ use Rattle.judge.specs.Decided.{refusedDecision, decisionOf}
 use Rattle.judge.specs.Warned.{warningsOn}
 use Rattle.judge.proofs.Warnings.{warnings-same}
 use Rattle.after.specs.declared.Plan.{Plan}
-use Rattle.after.specs.Plan.{planApplied}
+use Rattle.after.specs.Plan.{FreeSlots, planApplied}
 use Rattle.after.proofs.Plans.{plan-after}
 
 -- what is answered and what is left is a step
@@ -37,7 +37,7 @@ module _ (b s : List ℕ) {d : Decision} (decided : d ≡ decisionOf b s) where
   number-is : d .number ≡ refusalNumber b s
   unfolding decisionOf pick
   number-is = ap (λ (d : Decision). d .number) decided ∙ by-case (refusalNumber b s) (eqb (refusalNumber b s) 0) refl where
-    by-case : (n : ℕ) (t : Bool) → eqb n 0 ≡ t → pick t (record { number = 0; keep = series (stays b s) 0 slotCount; written = slotWritten b s; changes = changesState b s; left = someSlot (leaves b s) }) (refusedDecision n) .number ≡ n
+    by-case : (n : ℕ) (t : Bool) → eqb n 0 ≡ t → pick t (record { number = 0; cleared = series (cleared b s) 0 slotCount; written = slotWritten b s; changes = changesState b s; left = someSlot (leaves b s) }) (refusedDecision n) .number ≡ n
     by-case n true e = sym (eqb-true n 0 e)
     by-case n false e = refl
 
@@ -47,13 +47,13 @@ module _ (b s : List ℕ) {d : Decision} (decided : d ≡ decisionOf b s) where
       let no-zero : eqb (refusalNumber b s) 0 ≡ false = ap (λ (k : ℕ). eqb k 0) (sym number-is) ∙ ne-eqb (d .number) 0 ne in
       (e ∙ rw (no-zero, number-is), rw no-zero)
 
-  module _ (long : length b ≡ blockSize) (few : partCount s ≤ 100) (zero-now : d .number ≡ 0) where
+  module _ (long : length b ≡ blockSize) (free : FreeSlots b) (few : partCount s ≤ 100) (zero-now : d .number ≡ 0) where
     accepted : eqb (refusalNumber b s) 0 ≡ true
     accepted = ap (λ (k : ℕ). eqb k 0) (sym number-is) ∙ eq-eqb (d .number) 0 zero-now
 
     outcome : d ≡ record {
       number = 0;
-      keep = series (stays b s) 0 slotCount;
+      cleared = series (cleared b s) 0 slotCount;
       written = slotWritten b s;
       changes = changesState b s;
       left = someSlot (leaves b s);
@@ -61,11 +61,11 @@ module _ (b s : List ℕ) {d : Decision} (decided : d ≡ decisionOf b s) where
     unfolding decisionOf pick
     outcome = decided ∙ rw accepted
 
-    pub accepts : {left : List ℕ} {h : Head} {w : ℕ} → left ≡ planApplied b s (record { keep = d .keep; written = d .written; changes = d .changes }) → h ≡ headOf s → w ≡ warningsOn left h (d .left) → Is (judge b s) (record { number = 0; warnings = w }) left
+    pub accepts : {left : List ℕ} {h : Head} {w : ℕ} → left ≡ planApplied b s (record { cleared = d .cleared; written = d .written; changes = d .changes }) → h ≡ headOf s → w ≡ warningsOn left h (d .left) → Is (judge b s) (record { number = 0; warnings = w }) left
     unfolding judge pick
     accepts {left} {h} {w} p head q =
         let same : left ≡ blockAfter b s =
-        p ∙ plan-after b s _ long few (ap (λ (d : Decision). d .keep) outcome) (ap (λ (d : Decision). d .written) outcome) (ap (λ (d : Decision). d .changes) outcome) (sym number-is ∙ zero-now) in
+        p ∙ plan-after b s _ long free few (ap (λ (d : Decision). d .cleared) outcome) (ap (λ (d : Decision). d .written) outcome) (ap (λ (d : Decision). d .changes) outcome) (sym number-is ∙ zero-now) in
         let moved : warningsOn left h (d .left) ≡ warningsOn (blockAfter b s) (headOf s) (someSlot (leaves b s)) = rw (same, head, ap (λ (d : Decision). d .left) outcome) in
         let warned : w ≡ warnings b s = q ∙ moved ∙ warnings-same b s in
         (rw (accepted, warned), same ∙ rw accepted)

@@ -8,6 +8,7 @@ ghost use Rattle.report.specs.Report.{partCount};
 ghost use Rattle.report.specs.Remark.{remarkIn};
 ghost use Rattle.rules.specs.Judge.{refusal as refusalOf, judge as judged};
 ghost use Rattle.rules.specs.Desk.{setUp, question3, answerTo};
+ghost use Rattle.after.specs.Plan.{FreeSlots};
 ghost use Rattle.desk.specs.Packed.{packed, packedRemark};
 
 fn refusal(number: u8) -> Answer
@@ -22,6 +23,7 @@ fn refusal(number: u8) -> Answer
 // Questions 4 to 19 on the unit's own block, lent as a part of the register.
 fn judge_block(b: &mut [u8], report: &[u8]) -> Answer
     requires { ⌜ (length (now b) ≡ 7168) × (partCount (now report) ≤ 100) ⌝ }
+    requires { ⌜ FreeSlots (now b) ⌝ }
     ensures { λ r. ⌜ r ≡ judged (now (b .entry)) (now (report .entry)) .answer ⌝ }
     ensures { λ _. ⌜ now (b .exit) ≡ judged (now (b .entry)) (now (report .entry)) .after ⌝ }
 {
@@ -29,9 +31,9 @@ fn judge_block(b: &mut [u8], report: &[u8]) -> Answer
     if decision.number != 0 {
         return refusal(decision.number);
     }
-    let keep = decision.keep;
+    let cleared = decision.cleared;
     let plan = Plan {
-        keep,
+        cleared,
         written: decision.written,
         changes: decision.changes,
     };

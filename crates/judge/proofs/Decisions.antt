@@ -19,7 +19,7 @@ use Rattle.rules.specs.declared.UnitHead.{UnitHead}
 use Rattle.rules.specs.Block.{slotCount, unitHead}
 use Rattle.rules.specs.Questions.{creationHead, recordBy, recordOf, recordAt, holder, heldRecord, other, leaves, stays, freeSlot, changesBy, changesState, hasTransition, question15, question16, question18, question19}
 use Rattle.rules.specs.Minutes.{FullRecord, reportedRecords, question17}
-use Rattle.rules.specs.After.{slotWritten, someSlot}
+use Rattle.rules.specs.After.{slotWritten, cleared, someSlot}
 use Rattle.rules.specs.Judge.{validationNumber, heldNumber, limitNumber, refusalNumber}
 use Rattle.levels.specs.Counted.{reportRecord, sweptRecords}
 use Rattle.validation.specs.declared.Validated.{Validated}
@@ -45,7 +45,7 @@ module _ (b s : List ℕ) (h : Head) (unit : UnitHead) (slot : ℕ) (changes der
 
   pub limits-accept : {w : ℕ} {left : Bool} → (n ≡ 0) → w ≡ writtenBy h slot free → left ≡ someOf (survey .leaves)
       → record
-      { number = 0; keep = survey .stays; written = w; changes = changes; left = left } ≡ limitsDecided b s h unit slot changes
+      { number = 0; cleared = survey .cleared; written = w; changes = changes; left = left } ≡ limitsDecided b s h unit slot changes
       deratings
   unfolding decidedBy pick
   limits-accept z w l = rw (← number-is, eq-eqb n 0 z, w, l, lowest, asked-slots)
@@ -94,6 +94,7 @@ module _ (b s : List ℕ) where
     closed = question15 b s;
     leaves = series (leaves b s) 0 slotCount;
     stays = series (stays b s) 0 slotCount;
+    cleared = series (cleared b s) 0 slotCount;
   }
   unfolding surveyOf answersAt slotAnswers other leaves stays question15
   surveyed = refl

@@ -44,12 +44,12 @@ module _ (b : List ℕ) (i : ℕ) {z : List ℕ} {u : Bool} (read : z ≡ slotAt
   some-held r n e q = rw (q, e, read, is-used n)
 
   pub free-answers : (h : Head) (slot : ℕ) (changes : Bool) → not u ≡ true
-      → record { other = false; closed = true; leaves = false; stays = false } ≡ answersAt b h slot changes i
+      → record { other = false; closed = true; leaves = false; stays = false; cleared = false } ≡ answersAt b h slot changes i
   unfolding answersAt slotAnswers live
   free-answers h slot changes n = rw (not-used n)
 
   pub used-answers : (h : Head) (slot : ℕ) (changes : Bool) {x : Record} {a : SlotAnswers} → not u ≡ false → x ≡ recordIn z
-      → a ≡ slotAnswers h slot changes (ltb (h .stamp .0) (x .period .end .0)) x i → a ≡ answersAt b h slot changes i
+      → a ≡ slotAnswers h slot changes true (ltb (h .stamp .0) (x .period .end .0)) x i → a ≡ answersAt b h slot changes i
   unfolding answersAt live
   used-answers h slot changes n e a = a ∙ rw (e, read, is-used n)
 
@@ -106,36 +106,46 @@ module _ (b : List ℕ) (h : Head) (slot : ℕ) (changes : Bool) where
   answer i = answersAt b h slot changes i
 
   -- the slots before slot i are asked
-  pub record Surveyed (others : List Bool) (closed : Bool) (leaves stays : List Bool) (i : ℕ) : Type 0 where
+  pub record Surveyed (others : List Bool) (closed : Bool) (leaves stays cleared : List Bool) (i : ℕ) : Type 0 where
     pub most : i ≤ 8
     pub counted : Filled (λ i. answer i .other) others i
     pub tested : Tested (λ i. answer i .closed) (λ i. i) 8 closed i
     pub left : Filled (λ i. answer i .leaves) leaves i
     pub kept : Filled (λ i. answer i .stays) stays i
+    pub emptied : Filled (λ i. answer i .cleared) cleared i
 
-  pub surveyed-none : Surveyed (replicate 8 false) true (replicate 8 false) (replicate 8 false) 0
+  pub surveyed-none : Surveyed (replicate 8 false) true (replicate 8 false) (replicate 8 false) (replicate 8 false) 0
   surveyed-none =
       let none : (f : ℕ → Bool) → Filled f (replicate 8 false) 0 = λ f. record { size = refl; so-far = filled-none f 0 } in
-      record { most = omega arith; counted = none _; tested = tested-none; left = none _; kept = none _ }
+      record { most = omega arith; counted = none _; tested = tested-none; left = none _; kept = none _; emptied = none _ }
 
-  pub surveyed-more : {others leaves stays : List Bool} {closed : Bool} {i : ℕ} {a : SlotAnswers}
-      → Surveyed others closed leaves stays i → i < 8 → a ≡ answer i
-      → Surveyed (set others i (a .other)) (closed && a .closed) (set leaves i (a .leaves)) (set stays i (a .stays)) (i + 1)
+  pub surveyed-more : {others leaves stays cleared : List Bool} {closed : Bool} {i : ℕ} {a : SlotAnswers}
+      → Surveyed others closed leaves stays cleared i → i < 8 → a ≡ answer i
+      → Surveyed (set others i (a .other)) (closed && a .closed) (set leaves i (a .leaves)) (set stays i (a .stays))
+      (set cleared i (a .cleared)) (i + 1)
   surveyed-more k l e = record {
     most = omega arith;
     counted = flag-more (k .counted) l (ap (λ (a : SlotAnswers). a .other) e);
     tested = tested-more (k .tested) l (ap (λ (a : SlotAnswers). a .closed) e);
     left = flag-more (k .left) l (ap (λ (a : SlotAnswers). a .leaves) e);
     kept = flag-more (k .kept) l (ap (λ (a : SlotAnswers). a .stays) e);
+    emptied = flag-more (k .emptied) l (ap (λ (a : SlotAnswers). a .cleared) e);
   }
 
-  pub surveyed-all : {others leaves stays : List Bool} {closed : Bool} {i : ℕ} → Surveyed others closed leaves stays i → 8 ≤ i
-      → record { others = others; closed = closed; leaves = leaves; stays = stays } ≡ surveyOf b h slot changes
+  pub surveyed-all : {others leaves stays cleared : List Bool} {closed : Bool} {i : ℕ}
+      → Surveyed others closed leaves stays cleared i → 8 ≤ i
+      → record { others = others; closed = closed; leaves = leaves; stays = stays; cleared = cleared } ≡ surveyOf b h slot changes
   unfolding surveyOf
-  surveyed-all {others} {leaves} {stays} {closed} {i} k l =
+  surveyed-all {others} {leaves} {stays} {cleared} {closed} {i} k l =
       let most = k .most in
       let e : i ≡ 8 = omega arith in
-      rw (flag-all (k .counted) e, tested-all (k .tested) l, flag-all (k .left) e, flag-all (k .kept) e)
+      rw (
+        flag-all (k .counted) e,
+        tested-all (k .tested) l,
+        flag-all (k .left) e,
+        flag-all (k .kept) e,
+        flag-all (k .emptied) e,
+      )
 
 -- the sweep of question 17
 module _ (h : Head) (unit : UnitHead) (ws : List FullRecord) {t : Bool} (asked : t ≡ isLevelled (h .«record_type»)) where

@@ -11,7 +11,7 @@ use Rattle.rules.specs.Codes.{change}
 use Rattle.rules.specs.Block.{slotCount}
 use Rattle.rules.specs.Questions.{creationHead, changesState, leaves, stays, question18, question19}
 use Rattle.rules.specs.Minutes.{question17}
-use Rattle.rules.specs.After.{slotWritten, someSlot}
+use Rattle.rules.specs.After.{slotWritten, cleared, someSlot}
 use Rattle.rules.specs.Judge.{limitNumber, refusalNumber}
 use Rattle.levels.specs.Counted.{sweptRecords}
 use Rattle.judge.specs.declared.Decision.{Decision}
@@ -23,7 +23,7 @@ unfoldable pub writtenBy : Head → ℕ → ℕ → ℕ
 writtenBy h slot free = pick (creationHead h) free (pick (eqb (h .operation) change) slot slotCount)
 
 abbrev pub refusedDecision : ℕ → Decision
-refusedDecision n = record { number = n; keep = replicate slotCount false; written = slotCount; changes = false; left = false }
+refusedDecision n = record { number = n; cleared = replicate slotCount false; written = slotCount; changes = false; left = false }
 
 -- questions 15 to 19, after the others
 abbrev pub numberAfter : List ℕ → List ℕ → Head → UnitHead → Bool → Bool → Survey → ℕ
@@ -38,7 +38,7 @@ decidedBy h slot changes survey n =
     pick (eqb n 0)
     (record {
       number = 0;
-      keep = survey .stays;
+      cleared = survey .cleared;
       written = writtenBy h slot (freeAmong (survey .stays));
       changes = changes;
       left = someOf (survey .leaves);
@@ -56,7 +56,7 @@ decisionOf b s =
     pick (eqb (refusalNumber b s) 0)
     (record {
       number = 0;
-      keep = series (stays b s) 0 slotCount;
+      cleared = series (cleared b s) 0 slotCount;
       written = slotWritten b s;
       changes = changesState b s;
       left = someSlot (leaves b s);

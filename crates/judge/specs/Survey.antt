@@ -10,7 +10,7 @@ use Rattle.report.specs.declared.Head.{Head}
 use Rattle.rules.specs.declared.Record.{Record}
 use Rattle.rules.specs.Codes.{change, withdraw}
 use Rattle.rules.specs.Records.{sameIdentifier, clashes, closes}
-use Rattle.rules.specs.Block.{slotCount}
+use Rattle.rules.specs.Block.{slotCount, slotAt, used}
 use Rattle.rules.specs.Questions.{recordBy, recordAt, live, mustLeave}
 use Rattle.rules.specs.After.{someSlot}
 use Rattle.judge.specs.declared.SlotAnswers.{SlotAnswers}
@@ -26,17 +26,23 @@ otherBy h slot is-live i = is-live && not (eqb (h .operation) change && eqb i sl
 abbrev pub leavesBy : Head → ℕ → Bool → Bool → Record → ℕ → Bool
 leavesBy h slot changes is-live x i = otherBy h slot is-live i && mustLeave h changes x
 
+abbrev pub staysBy : Head → ℕ → Bool → Bool → Record → ℕ → Bool
+staysBy h slot changes is-live x i =
+    is-live && not (leavesBy h slot changes is-live x i) && not (eqb (h .operation) withdraw && eqb i slot)
+
 -- slot i, where x is its record
-unfoldable pub slotAnswers : Head → ℕ → Bool → Bool → Record → ℕ → SlotAnswers
-slotAnswers h slot changes is-live x i = record {
+unfoldable pub slotAnswers : Head → ℕ → Bool → Bool → Bool → Record → ℕ → SlotAnswers
+slotAnswers h slot changes is-used is-live x i = record {
   other = otherBy h slot is-live i;
   closed = not (otherBy h slot is-live i && clashes (recordBy h) x) || closes (recordBy h) x;
   leaves = leavesBy h slot changes is-live x i;
-  stays = is-live && not (leavesBy h slot changes is-live x i) && not (eqb (h .operation) withdraw && eqb i slot);
+  stays = staysBy h slot changes is-live x i;
+  cleared = is-used && not (staysBy h slot changes is-live x i);
 }
 
 unfoldable pub answersAt : List ℕ → Head → ℕ → Bool → ℕ → SlotAnswers
-answersAt b h slot changes i = slotAnswers h slot changes (live b (h .stamp .0) i) (recordAt b i) i
+answersAt b h slot changes i =
+    slotAnswers h slot changes (used (slotAt b i)) (live b (h .stamp .0) i) (recordAt b i) i
 
 unfoldable pub surveyOf : List ℕ → Head → ℕ → Bool → Survey
 surveyOf b h slot changes = record {
@@ -44,6 +50,7 @@ surveyOf b h slot changes = record {
   closed = all (λ i. answersAt b h slot changes i .closed) (series (λ i. i) 0 slotCount);
   leaves = series (λ i. answersAt b h slot changes i .leaves) 0 slotCount;
   stays = series (λ i. answersAt b h slot changes i .stays) 0 slotCount;
+  cleared = series (λ i. answersAt b h slot changes i .cleared) 0 slotCount;
 }
 
 -- the lowest slot that is not marked, or 8; some slot is marked

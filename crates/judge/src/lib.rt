@@ -31,12 +31,13 @@ ghost use Rattle.judge.specs.Decided.{writtenBy, refusedDecision, limits
 ghost use Rattle.judge.specs.Warned.{overlapAt, minuteWarnings, warningsOn};
 
 // What is asked of a slot from question 15 on: does it count beside the report, is its clash with the report closed,
-// does its record leave, does it stay.
+// does its record leave, does it stay, is the slot cleared.
 pub struct SlotAnswers {
     pub other: bool,
     pub closed: bool,
     pub leaves: bool,
     pub stays: bool,
+    pub cleared: bool,
 }
 
 // The same of all slots; `closed` is question 15.
@@ -45,13 +46,14 @@ pub struct Survey {
     pub closed: bool,
     pub leaves: [bool; 8],
     pub stays: [bool; 8],
+    pub cleared: [bool; 8],
 }
 
-// The number of the first "no", or 0; then the slots that keep their record, the slot that is written (8: none), whether
-// the state changes, and whether some record leaves.
+// The number of the first "no", or 0; then the slots that are cleared, the slot that is written (8: none), whether the state
+// changes, and whether some record leaves.
 pub struct Decision {
     pub number: u8,
-    pub keep: [bool; 8],
+    pub cleared: [bool; 8],
     pub written: u8,
     pub changes: bool,
     pub left: bool,
@@ -153,17 +155,19 @@ fn must_leave(h: Head, changes: bool, x: Record) -> bool
 }
 
 fn slot_answers(h: Head, slot: u8, changes: bool, is_live: bool, x: Record, i: u8) -> SlotAnswers
-    ensures { λ r. ⌜ r ≡ answersOf h slot changes «is_live» x i ⌝ }
+    ensures { λ r. ⌜ r ≡ answersOf h slot changes true «is_live» x i ⌝ }
 {
     let r = records::record_by(h);
     let other = is_live & !((h.operation == CHANGE) & (i == slot));
     let closed = !(other & records::records_clash(r, x)) | records::record_closes(r, x);
     let leaves = other & must_leave(h, changes, x);
+    let stays = is_live & !leaves & !((h.operation == WITHDRAW) & (i == slot));
     SlotAnswers {
         other,
         closed,
         leaves,
-        stays: is_live & !leaves & !((h.operation == WITHDRAW) & (i == slot)),
+        stays,
+        cleared: !stays,
     }
 }
 
@@ -177,6 +181,7 @@ fn answers_at(b: &[u8], h: Head, slot: u8, changes: bool, i: u8) -> SlotAnswers
             closed: true,
             leaves: false,
             stays: false,
+            cleared: false,
         };
     }
     let x = block::record_in(z);
@@ -190,18 +195,21 @@ fn survey_slots(b: &[u8], h: Head, slot: u8, changes: bool) -> Survey
     let mut closed = true;
     let mut leaves = [false; 8];
     let mut stays = [false; 8];
+    let mut cleared = [false; 8];
     for i in 0..8u8 {
         let a = answers_at(b, h, slot, changes, i);
         others[i as usize] = a.other;
         closed = closed & a.closed;
         leaves[i as usize] = a.leaves;
         stays[i as usize] = a.stays;
+        cleared[i as usize] = a.cleared;
     }
     Survey {
         others,
         closed,
         leaves,
         stays,
+        cleared,
     }
 }
 
@@ -282,10 +290,10 @@ fn slot_written(h: Head, slot: u8, free: u8) -> u8
 fn refuse(number: u8) -> Decision
     ensures { λ r. ⌜ r ≡ refusedDecision number ⌝ }
 {
-    let keep = [false; 8];
+    let cleared = [false; 8];
     Decision {
         number,
-        keep,
+        cleared,
         written: 8,
         changes: false,
         left: false,
@@ -305,10 +313,11 @@ fn decide_limits(
     ensures { λ r. ⌜ r ≡ limitsDecided (now (b .entry)) (now (report .entry)) h unit slot changes deratings ⌝ }
 {
     let survey = survey_slots(b, h, slot, changes);
-    let keep = survey.stays;
+    let stays = survey.stays;
+    let cleared = survey.cleared;
     let others = survey.others;
     let leaves = survey.leaves;
-    let free = lowest_free(keep);
+    let free = lowest_free(stays);
     let minutes = minutes_fit(b, report, h, unit, others);
     let state = !changes | has_transition(unit.row, h);
     let room = !((h.operation == CREATE) & !(h.record_type == EVENT)) | (free < 8);
@@ -318,7 +327,7 @@ fn decide_limits(
     }
     Decision {
         number: 0,
-        keep,
+        cleared,
         written: slot_written(h, slot, free),
         changes,
         left: some_of(leaves),

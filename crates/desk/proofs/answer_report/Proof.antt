@@ -8,6 +8,7 @@ use Rattle.report.specs.declared.Head.{Head}
 use Rattle.report.proofs.Sizes.{whole-sized}
 use Rattle.rules.specs.Judge.{judge}
 use Rattle.desk.proofs.Answers.{no-1, no-2, no-3, judged-there, inside, lent-length, answered-there, left-there}
+use Rattle.desk.proofs.Free.{lent-free}
 use borrow.Author.Needs.{needs}
 use Rattle.desk.proofs.answer_report.Statement.{statement}
 use Rattle.desk.proofs.answer_report.Tie as tie
@@ -35,13 +36,14 @@ part-judge-block-end c =
     (c .before .before .before .is-addressed .ensures) (c .before .before .if3 .left) in omega (arith, k .first, k .last)
 
 judge-block-requires : tie.Need-judge-block-requires
-judge-block-requires c κs = (
-  lent-length _ _ (inside _ _ (ap (λ (h : Head). h .unit) (c .before .before .head-of .ensures))
-      (c .before .before .before .before .is-addressed .ensures) (c .before .before .before .if3 .left)),
-  whole-sized _
-      (sym (c .before .before .before .before .before .before .before .is-whole .ensures) ∙ not-false _
-      (c .before .before .before .before .before .before .if2 .left)) .few,
-)
+judge-block-requires c κs =
+    let k = inside _ _ (ap (λ (h : Head). h .unit) (c .before .before .head-of .ensures))
+    (c .before .before .before .before .is-addressed .ensures) (c .before .before .before .if3 .left) in
+    let whole = c .before .before .before .before .before .before in
+    (
+      (lent-length _ _ k, whole-sized _ (sym (whole .before .is-whole .ensures) ∙ not-false _ (whole .if2 .left)) .few),
+      lent-free _ (whole .before .before .before .register-whole .ensures) (whole .before .before .if1 .left) k,
+    )
 
 returns-4 : tie.Need-returns-4
 returns-4 c =

@@ -8,7 +8,9 @@ returns : tie.Need-returns
 returns c = refuses _ _ (c .before .before .before .decide .ensures) (c .before .if1 .taken) (c .refusal .ensures)
 
 returns-2 : tie.Need-returns-2
-returns-2 c = accepts _ _ (c .before .before .before .before .before .before .before .before .before .before .decide .ensures) (c .before .before .before .before .before .before .before .before .before .before .before .before .before .before .pre .0) (c .before .before .before .before .before .before .before .before .before .before .before .before .before .before .pre .1) (c .before .before .before .before .before .before .before .before .if1 .left) (c .before .before .before .before .before .apply .ensures) (c .before .head-of .ensures) (c .warnings-on .ensures)
+returns-2 c =
+    let given = c .before .before .before .before .before .before .before .before .before .before .before .before .before .before .pre in
+    accepts _ _ (c .before .before .before .before .before .before .before .before .before .before .decide .ensures) (given .0 .0) (given .1) (given .0 .1) (c .before .before .before .before .before .before .before .before .if1 .left) (c .before .before .before .before .before .apply .ensures) (c .before .head-of .ensures) (c .warnings-on .ensures)
 
 pub judge-block-spec : {M : Type 1} → statement M
 judge-block-spec =

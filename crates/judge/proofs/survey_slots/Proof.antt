@@ -6,11 +6,11 @@ use Rattle.judge.proofs.survey_slots.Statement.{statement}
 use Rattle.judge.proofs.survey_slots.Tie as tie
 
 abbrev Inv-loop : tie.InvT-loop
-Inv-loop b h slot changes others₀ closed₀ leaves₀ stays₀ i₀ others closed leaves stays i = Surveyed b h slot changes others closed
-    leaves stays i
+Inv-loop b h slot changes others₀ closed₀ leaves₀ stays₀ cleared₀ i₀ others closed leaves stays cleared i =
+    Surveyed b h slot changes others closed leaves stays cleared i
 
 abbrev μ-loop : tie.MeasureT-loop
-μ-loop b h slot changes others₀ closed₀ leaves₀ stays₀ i₀ others closed leaves stays i = 8 - i
+μ-loop b h slot changes others₀ closed₀ leaves₀ stays₀ cleared₀ i₀ others closed leaves stays cleared i = 8 - i
 
 loop-again : tie.Need-loop-again Inv-loop μ-loop
 loop-again c = surveyed-more _ _ _ _ (c .before .before .before .loop .inv) (c .before .before .loop-test .taken)
@@ -27,6 +27,8 @@ survey-slots-spec =
     μ-loop
     (λ c. surveyed-none _ _ _ _)
     (λ c κs. search needs)
+    (λ c. search needs)
+    (λ c. search needs)
     (λ c. search needs)
     (λ c. search needs)
     (λ c. search needs)
