@@ -1,7 +1,8 @@
 -- Question 1 of a used slot, as one pass over its pairs asks it: proofs/Pairs.antt shows that it is what paper 01 asks.
 use Prim.Native.Nat.{ℕ, zero, suc, _+_, _*_, _≤_, _<_}
+use mathlib.Core.Path.{_≡_}
 use mathlib.Core.List.{List, [], _∷_}
-use mathlib.Core.Bool.{Bool, not, _&&_, _||_}
+use mathlib.Core.Bool.{Bool, false, not, _&&_, _||_}
 use lib.Dec.{leb, ltb, eqb}
 use Rattle.fields.specs.Fields.{u16At, u32At}
 use Rattle.fields.specs.Lists.{every}
@@ -10,7 +11,7 @@ use Rattle.quantities.specs.Quantities.{minuteAt, kilowattAt, highestPower}
 use Rattle.rules.specs.declared.Record.{Record}
 use Rattle.rules.specs.Codes.{between, stop, offGrid}
 use Rattle.rules.specs.Records.{fieldsInRange, kindAllows, begun}
-use Rattle.rules.specs.Block.{unitMark, zerosAt, unitHead}
+use Rattle.rules.specs.Block.{slotCount, unitMark, zerosAt, unitHead, slotAt, used}
 use Rattle.rules.specs.Whole.{headInRange}
 use Rattle.block.specs.declared.Pair.{Pair}
 
@@ -45,6 +46,11 @@ holdsAlone kind last r =
     ∷ leb (r .stamp .0) (last .0)
     ∷ (not (begun r) || leb (r .period .start .0) (r .stamp .0))
     ∷ [])
+
+-- from slot `end` on all are free
+pub record FreeFrom (b : List ℕ) (end : ℕ) : Type 0 where
+  pub most : end ≤ slotCount
+  pub free : (i : ℕ) → end ≤ i → i < slotCount → used (slotAt b i) ≡ false
 
 -- what is asked of a block's 64-byte head
 unfoldable pub headWhole : ℕ → List ℕ → Bool

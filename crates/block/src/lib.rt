@@ -29,7 +29,7 @@ ghost use Rattle.fields.specs.Lists.{all, series, part};
 ghost use Rattle.rules.specs.Roster.{powersAt, entryOf, entryGood, piece, rosterGood};
 ghost use Rattle.rules.specs.Block.{zeros, zerosAt, unitHead, slotAt, used, recordIn, storedCount};
 ghost use Rattle.rules.specs.Whole.{recordsApart, slotWhole, slotsApart, blockWhole, registerWhole};
-ghost use Rattle.block.specs.Slot.{pairAt, endsRise, PowersWithin, pairsRise, holdsAlone, headWhole};
+ghost use Rattle.block.specs.Slot.{pairAt, endsRise, PowersWithin, pairsRise, holdsAlone, headWhole, FreeFrom};
 
 // Where a part in a slot ends, and its power.
 pub struct Pair {
@@ -186,11 +186,11 @@ pub fn pair_at(z: &[u8], j: u16) -> Pair
 fn all_zero(z: &[u8]) -> bool
     ensures { λ r. ⌜ r ≡ zerosAt (now (z .entry)) 0 (length (now (z .entry))) ⌝ }
 {
-    let mut ok = true;
+    let mut bits = 0u8;
     for i in 0..z.len() {
-        ok = ok & (z[i] == 0);
+        bits = bits | z[i];
     }
-    ok
+    bits == 0
 }
 
 // A byte past the end counts as 0.
@@ -285,22 +285,42 @@ fn slot_whole(kind: u8, last: Minute, z: &[u8]) -> bool
             is_levelled(r.record_type),
             (1 <= k) & pairs_fit(z, k, r.period),
             k == 0,
-        ) & zeros_at(z, 38, 50)
+        )
+            & zeros_at(z, 38, 50)
             & zeros_at(z, from, 888 - from);
     }
     all_zero(z)
 }
 
-fn slots_whole(kind: u8, last: Minute, b: &[u8]) -> bool
+// The first slot from which on all are free, or 8.
+fn free_from(b: &[u8]) -> u8
+    ensures { λ r. ⌜ FreeFrom (now (b .entry)) r ⌝ }
+{
+    let mut end = 0u8;
+    let mut i = 0u8;
+    while i < 8 {
+        let z = slot_at(b, i);
+        i += 1;
+        if is_used(z) {
+            end = i;
+        }
+    }
+    end
+}
+
+// The free slots at the end are zeros in one stretch.
+fn slots_whole(kind: u8, last: Minute, b: &[u8], end: u8) -> bool
     requires { ⌜ length (now b) ≡ 7168 ⌝ }
+    requires { ⌜ FreeFrom (now b) end ⌝ }
     ensures { λ r. ⌜ r ≡ all (λ i. slotWhole kind last (slotAt (now (b .entry)) i)) (series (λ i. i) 0 8) ⌝ }
 {
-    for i in 0..8u8 {
+    for i in 0..end {
         if !slot_whole(kind, last, slot_at(b, i)) {
             return false;
         }
     }
-    true
+    let from = 64 + 888 * (end as usize);
+    zeros_at(b, from, 7168 - from)
 }
 
 // A record and what is in a slot.
@@ -336,11 +356,12 @@ fn slot_apart_below(b: &[u8], i: u8) -> bool
     }
 }
 
-fn slots_apart(b: &[u8]) -> bool
+fn slots_apart(b: &[u8], end: u8) -> bool
+    requires { ⌜ FreeFrom (now b) end ⌝ }
     ensures { λ a. ⌜ a ≡ all (λ i. all (λ j. slotsApart (slotAt (now (b .entry)) i) (slotAt (now (b .entry)) j)) (series (λ j. j) 0 i)) (series (λ i. i) 0 8) ⌝ }
 {
     let mut ok = true;
-    for i in 0..8u8 {
+    for i in 0..end {
         ok = ok & slot_apart_below(b, i);
     }
     ok
@@ -368,10 +389,11 @@ pub fn block_whole(unit: u16, b: &[u8]) -> bool
         return false;
     }
     let h = unit_head(b);
-    if !slots_whole(h.kind, h.last_stamp, b) {
+    let end = free_from(b);
+    if !slots_whole(h.kind, h.last_stamp, b, end) {
         return false;
     }
-    slots_apart(b)
+    slots_apart(b, end)
 }
 
 fn blocks_whole(register: &[u8], n: u16) -> bool

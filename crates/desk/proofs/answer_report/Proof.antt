@@ -39,8 +39,7 @@ judge-block-requires : tie.Need-judge-block-requires
 judge-block-requires c κs =
     let k = inside _ _ (ap (λ (h : Head). h .unit) (c .before .before .head-of .ensures))
     (c .before .before .before .before .is-addressed .ensures) (c .before .before .before .if3 .left) in
-    let whole = c .before .before .before .before .before .before in
-    (
+    let whole = c .before .before .before .before .before .before in (
       (lent-length _ _ k, whole-sized _ (sym (whole .before .is-whole .ensures) ∙ not-false _ (whole .if2 .left)) .few),
       lent-free _ (whole .before .before .before .register-whole .ensures) (whole .before .before .if1 .left) k,
     )
