@@ -2,11 +2,10 @@
 use Prim.Native.Nat.{ℕ, _+_, _*_}
 use mathlib.Core.List.{List, [], _∷_, _++_}
 use mathlib.Core.Bool.{Bool}
-use lib.Dec.{eqb}
 use Rattle.fields.specs.Lists.{joined}
-use Rattle.rules.specs.Codes.{stop, positiveDerating, negativeDerating, forcedWork, planned, executed, R, RO, U1, U2, P, RP}
-use Rattle.rules.specs.Samples.{partOf, _but_, direction, mark, identifier, stamp, start, end, created, levelled, plannedStop, begunStop, eventAt, slotOf}
-use Rattle.rules.specs.Boundaries.Tests.{unitW, unitM, unitZ, unitA, row, positive, negative, forced, brief, offGridAt, held, changed, withdrawn, gives}
+use Rattle.rules.specs.Codes.{positiveDerating, negativeDerating, forcedWork, executed, R, RO, U1, U2, P, RP}
+use Rattle.rules.specs.Samples.{partOf, _but_, direction, mark, identifier, stamp, created, levelled, plannedStop, begunStop, eventAt, slotOf}
+use Rattle.rules.specs.Boundaries.Tests.{unitW, unitM, unitZ, unitA, row, positive, negative, forced, brief, offGridAt, held, changed, gives}
 
 -- 16. "Is each reported positive derating ≤ Pmax, each negative ≤ Pmax − Pmin of its direction?"
 abbrev pub deratings : List Bool
