@@ -134,9 +134,9 @@ limits-sharedMinutes : failing 1 limits.sharedMinutes ≡ []
 unfolding computed failing sameBytes
 limits-sharedMinutes = refl
 
-limits-arrows : failing 1 limits.arrows ≡ []
+limits-transitions : failing 1 limits.transitions ≡ []
 unfolding computed failing sameBytes
-limits-arrows = refl
+limits-transitions = refl
 
 limits-begins : failing 1 limits.begins ≡ []
 unfolding computed failing sameBytes
@@ -222,7 +222,7 @@ boundaries-hold = record {
   limits-levelsW1M1 = limits-levelsW1M1;
   limits-levelsZ1 = limits-levelsZ1;
   limits-sharedMinutes = limits-sharedMinutes;
-  limits-arrows = limits-arrows;
+  limits-transitions = limits-transitions;
   limits-begins = limits-begins;
   limits-room = limits-room;
   order-firstNo = order-firstNo;

@@ -8,7 +8,8 @@ use Rattle.rules.specs.Records.{qualificationInRange, fieldsInRange, kin
 use Rattle.rules.specs.Roster.{rowInRange, powersInOrder, entryGood, piecesPass}
 use Rattle.rules.specs.Block.{zeros, zerosAt, headBytes, freshBlock, slotAt, pairsFrom}
 use Rattle.rules.specs.Whole.{headInRange, recordHolds, slotWhole, recordsApart, slotsApart, blockWhole}
-use Rattle.rules.specs.Questions.{identifierZero, question4, question6, question7, question8, live, holder, other, question15, deratingFits, question16, changesState, eventLeadsTo, leadsTo, qualificationAfter, leaves, stays, freeSlot}
+use Rattle.rules.specs.Transitions.{lookUp, eventLeadsTo}
+use Rattle.rules.specs.Questions.{identifierZero, question4, question6, question7, question8, live, holder, other, question15, deratingFits, question16, changesState, leadsTo, qualificationAfter, leaves, stays, freeSlot}
 use Rattle.rules.specs.Minutes.{levelIn, levelOf, levelAmong, recordsAmong, reportedRecords, blockRecords, levelsAt, levelsFit, aboveMax, belowMin, levelsEvery, levelsSome, question17}
 use Rattle.rules.specs.After.{putRow, headAfter, pairBytes, slotBytes, slotWritten, slotAfter, blockAfter, someSlot, warnsOverlap, warnsMinute, warnsLeft, warnings}
 use Rattle.rules.specs.Judge.{validationNumber, heldNumber, limitNumber, refusalNumber, judge}
@@ -17,5 +18,5 @@ use Rattle.rules.specs.Alone.{isOwn, pageStep, pageFrom, isSomeones, ans
 use Rattle.rules.specs.Samples.{entryBytes}
 
 unfoldable pub computed : Unit {0}
-unfolding pick and-each every all series seek joined part put uintAt bytesOf sized marked whole covers partsCover encodeHead encodeParts encodeReport qualificationInRange fieldsInRange kindAllows partsFit powersInRange sameIdentifier clashes closes rowInRange powersInOrder entryGood piecesPass zeros zerosAt headBytes freshBlock slotAt pairsFrom headInRange recordHolds slotWhole recordsApart slotsApart blockWhole identifierZero question4 question6 question7 question8 live holder other question15 deratingFits question16 changesState eventLeadsTo leadsTo qualificationAfter leaves stays freeSlot levelIn levelOf levelAmong recordsAmong reportedRecords blockRecords levelsAt levelsFit aboveMax belowMin levelsEvery levelsSome question17 putRow headAfter pairBytes slotBytes slotWritten slotAfter blockAfter someSlot warnsOverlap warnsMinute warnsLeft warnings validationNumber heldNumber limitNumber refusalNumber judge newRegister setUp question3 answerTo answers registerAfter isOwn pageStep pageFrom isSomeones answerAlone answersAlone entryBytes
+unfolding pick and-each every all series seek joined part put uintAt bytesOf sized marked whole covers partsCover encodeHead encodeParts encodeReport qualificationInRange fieldsInRange kindAllows partsFit powersInRange sameIdentifier clashes closes rowInRange powersInOrder entryGood piecesPass zeros zerosAt headBytes freshBlock slotAt pairsFrom headInRange recordHolds slotWhole recordsApart slotsApart blockWhole identifierZero question4 question6 question7 question8 live holder other question15 deratingFits question16 changesState lookUp eventLeadsTo leadsTo qualificationAfter leaves stays freeSlot levelIn levelOf levelAmong recordsAmong reportedRecords blockRecords levelsAt levelsFit aboveMax belowMin levelsEvery levelsSome question17 putRow headAfter pairBytes slotBytes slotWritten slotAfter blockAfter someSlot warnsOverlap warnsMinute warnsLeft warnings validationNumber heldNumber limitNumber refusalNumber judge newRegister setUp question3 answerTo answers registerAfter isOwn pageStep pageFrom isSomeones answerAlone answersAlone entryBytes
 computed = tt

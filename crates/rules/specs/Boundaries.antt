@@ -61,7 +61,7 @@ pub record BoundariesHold : Type 0 where
   pub limits-levelsW1M1 : failing 1 limits.levelsW1M1 ≡ []
   pub limits-levelsZ1 : failing 1 limits.levelsZ1 ≡ []
   pub limits-sharedMinutes : failing 1 limits.sharedMinutes ≡ []
-  pub limits-arrows : failing 1 limits.arrows ≡ []
+  pub limits-transitions : failing 1 limits.transitions ≡ []
   pub limits-begins : failing 1 limits.begins ≡ []
   pub limits-room : failing 1 limits.room ≡ []
   -- the first "no", and what is skipped

@@ -7,7 +7,7 @@ use lib.ListN.{length}
 use Rattle.fields.specs.Lists.{part}
 use Rattle.rules.specs.Block.{zeros}
 use Rattle.rules.specs.Desk.{newRegister, setUp, question3, withBlock, answerTo}
-use Rattle.rules.specs.Samples.{_but_, byte, half, unit, owner, stamp, entryBytes, slotOf}
+use Rattle.rules.specs.Samples.{_but_, byte, half, unit, owner, entryBytes}
 use Rattle.rules.specs.Boundaries.Tests.{entryW, entryM, unitW, unitM, lastStamp, positive, sameBytes}
 
 -- owner 7's W1 and owner 8's M1

@@ -1,11 +1,13 @@
 -- Questions 4 to 9: for each clause a report that just passes and one that just fails.
-use Prim.Native.Nat.{ℕ, _+_, _*_}
+use Prim.Native.Nat.{ℕ, _+_}
 use mathlib.Core.List.{List, [], _∷_, _++_}
 use mathlib.Core.Bool.{Bool, not}
 use Rattle.fields.specs.Lists.{series}
 use Rattle.report.specs.declared.Part.{Part}
 use Rattle.report.specs.Cover.{partsCover}
+use Rattle.report.specs.Report.{headOf, partsOf}
 use Rattle.rules.specs.Codes.{stop, positiveDerating, negativeDerating, forcedWork, offGrid, event, planned, executed}
+use Rattle.rules.specs.Questions.{question7}
 use Rattle.rules.specs.Samples.{period, partOf, _but_, byte, word, type, operation, direction, mark, qualification, ordinal, identifier, stamp, start, end, created, levelled, plannedStop, begunStop, eventAt, slotOf}
 use Rattle.rules.specs.Boundaries.Tests.{unitW, unitM, unitZ, unitA, positive, negative, forced, offGridAt, withdrawn, gives}
 
@@ -170,6 +172,9 @@ quarters =
     ∷ gives 7 unitW (plannedStop 1 16 30)
     ∷ gives 7 unitW (plannedStop 1 20 30)
     ∷ gives 0 unitW (begunStop 1 8 30)
+    -- "a planned start" is one with mark 1, wherever the stamp lies; question 6 has not been asked here
+    ∷ not (question7 (headOf (plannedStop 1 8 30)) (partsOf (plannedStop 1 8 30)))
+    ∷ question7 (headOf (begunStop 1 16 30)) (partsOf (begunStop 1 16 30))
     -- "every part end after the stamp"
     ∷ gives 0 unitW (begunStepped 9)
     ∷ gives 0 unitW (begunStepped 10)

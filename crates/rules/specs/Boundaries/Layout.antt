@@ -5,17 +5,16 @@ use mathlib.Core.Bool.{Bool, not}
 use lib.Dec.{eqb}
 use lib.ListN.{length, replicate}
 use Rattle.fields.specs.Lists.{part}
-use Rattle.quantities.specs.declared.Minute.{Minute}
 use Rattle.quantities.specs.Quantities.{isTime, isPower, overlap}
 use Rattle.report.specs.Report.{headOf, partsOf, sized, whole}
 use Rattle.report.specs.Encoded.{encodeReport}
 use Rattle.rules.specs.Codes.{stop, positiveDerating, negativeDerating, forcedWork, offGrid, event, isLevelled, create, change, withdraw, generation, bothDirections, meet, planned, executed, W1, M1, Z1, A, R, RO, U1, U2, P, RP, RE}
 use Rattle.rules.specs.Roster.{entrySize, entryOf}
-use Rattle.rules.specs.Block.{headSize, slotSize, slotCount, blockSize, zeros, unitHead, headBytes, freshBlock, recordIn, partsIn}
+use Rattle.rules.specs.Block.{headSize, slotSize, slotCount, blockSize, unitHead, headBytes, freshBlock, recordIn, partsIn}
 use Rattle.rules.specs.After.{slotBytes}
-use Rattle.rules.specs.Samples.{period, partOf, _but_, byte, half, created, slotOf, entryBytes}
+use Rattle.rules.specs.Samples.{period, _but_, byte, half, created, slotOf, entryBytes}
 use Rattle.rules.specs.Boundaries.Tests.{positive, sameBytes}
-use Rattle.rules.specs.Boundaries.Form.{minutes, stepped}
+use Rattle.rules.specs.Boundaries.Form.{minutes}
 
 -- "Types: 1 stop, 2 positive derating, 3 negative derating, 4 forced work, 5 off-grid work, 6 event. Operations: 1 create, 2 change,
 -- 3 withdraw. Directions: 1 generation, 2 consumption, 3 both. .. Marks: 1 planned, 2 executed." "kind u8 (1 W1, 2 M1, 3 Z1, 4 A)"

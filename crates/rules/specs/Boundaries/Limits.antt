@@ -2,11 +2,10 @@
 use Prim.Native.Nat.{ℕ, _+_, _*_}
 use mathlib.Core.List.{List, [], _∷_, _++_}
 use mathlib.Core.Bool.{Bool}
-use lib.Dec.{eqb}
 use Rattle.fields.specs.Lists.{joined}
-use Rattle.rules.specs.Codes.{stop, positiveDerating, negativeDerating, forcedWork, planned, executed, R, RO, U1, U2, P, RP}
-use Rattle.rules.specs.Samples.{partOf, _but_, direction, mark, identifier, stamp, start, end, created, levelled, plannedStop, begunStop, eventAt, slotOf}
-use Rattle.rules.specs.Boundaries.Tests.{unitW, unitM, unitZ, unitA, row, positive, negative, forced, brief, offGridAt, held, changed, withdrawn, gives}
+use Rattle.rules.specs.Codes.{positiveDerating, negativeDerating, forcedWork, executed, R, RO, U1, U2, P, RP}
+use Rattle.rules.specs.Samples.{partOf, _but_, direction, mark, identifier, stamp, created, levelled, plannedStop, begunStop, eventAt, slotOf}
+use Rattle.rules.specs.Boundaries.Tests.{unitW, unitM, unitZ, unitA, row, positive, negative, forced, brief, offGridAt, held, changed, gives}
 
 -- 16. "Is each reported positive derating ≤ Pmax, each negative ≤ Pmax − Pmin of its direction?"
 abbrev pub deratings : List Bool
@@ -129,10 +128,10 @@ events state q one two three four five six =
     ∷ gives six (unitW but row state q 0) (eventAt 6 10)
     ∷ []
 
--- 18. "Events: 1 R→RO; 2 RO→U1; 3 U1→U2 and RP→P; 4 U2→P; 5 P, RP→R; 6 RO, U1, U2→R." Where an arrow leads stands with the block
--- afterwards.
-abbrev pub arrows : List Bool
-arrows =
+-- 18. "Events: 1 R→RO; 2 RO→U1; 3 U1→U2 and RP→P; 4 U2→P; 5 P, RP→R; 6 RO, U1, U2→R." Where a transition leads stands with the
+-- block afterwards.
+abbrev pub transitions : List Bool
+transitions =
     events R 1 0 18 18 18 18 18 ++ events RO 0 18 0 18 18 18 0 ++ events U1 0 18 18 0 18 18 0
     ++ events U2 0 18 18 18 0 18 0 ++ events P 0 18 18 18 18 0 18 ++ events RP 1 18 18 0 18 0 18
 

@@ -1,10 +1,9 @@
 -- "The questions, in order; the first "no" is the refusal": reports to which two questions say no.
-use Prim.Native.Nat.{ℕ}
 use mathlib.Core.List.{List, [], _∷_, _++_}
 use mathlib.Core.Bool.{Bool}
-use Rattle.rules.specs.Codes.{positiveDerating, negativeDerating, forcedWork, executed, R, RP}
+use Rattle.rules.specs.Codes.{positiveDerating, executed, R}
 use Rattle.rules.specs.Samples.{partOf, _but_, direction, mark, ordinal, identifier, stamp, created, levelled, plannedStop, begunStop, eventAt, slotOf}
-use Rattle.rules.specs.Boundaries.Tests.{unitW, row, positive, forced, offGridAt, held, changed, withdrawn, gives}
+use Rattle.rules.specs.Boundaries.Tests.{unitW, row, positive, forced, held, changed, withdrawn, gives}
 use Rattle.rules.specs.Boundaries.Limits.{crowded}
 
 abbrev pub firstNo : List Bool

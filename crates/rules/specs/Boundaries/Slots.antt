@@ -2,11 +2,11 @@
 use mathlib.Core.List.{List, [], _∷_, _++_}
 use mathlib.Core.Bool.{Bool, not}
 use Prim.Native.Nat.{ℕ}
-use Rattle.rules.specs.Codes.{stop, positiveDerating, negativeDerating, forcedWork, event, planned, executed, R, RP}
+use Rattle.rules.specs.Codes.{stop, positiveDerating, negativeDerating, executed, R, RP}
 use Rattle.rules.specs.Records.{closes}
 use Rattle.rules.specs.Questions.{recordOf}
-use Rattle.rules.specs.Samples.{_but_, byte, operation, direction, mark, qualification, ordinal, identifier, stamp, start, end, levelled, plannedStop, begunStop, eventAt, slotOf}
-use Rattle.rules.specs.Boundaries.Tests.{unitW, unitM, row, positive, negative, forced, offGridAt, held, changed, withdrawn, gives}
+use Rattle.rules.specs.Samples.{_but_, byte, direction, mark, qualification, ordinal, identifier, stamp, start, end, levelled, plannedStop, begunStop, eventAt, slotOf}
+use Rattle.rules.specs.Boundaries.Tests.{unitW, unitM, row, positive, negative, offGridAt, held, changed, withdrawn, gives}
 
 -- the unit holds the report's own record, planned from D+15 to D+30
 abbrev pub holding : List ℕ

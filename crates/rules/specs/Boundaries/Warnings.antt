@@ -1,11 +1,11 @@
 -- "Warnings, added up, judge only the reported record, 1 to 4 against the block afterwards; events and withdrawals carry 0".
 use Prim.Native.Nat.{ℕ}
 use mathlib.Core.List.{List, [], _∷_, _++_}
-use mathlib.Core.Bool.{Bool, true, false, not}
+use mathlib.Core.Bool.{Bool, true, not}
 use Rattle.report.specs.Report.{headOf}
 use Rattle.rules.specs.declared.Level.{Level}
 use Rattle.rules.specs.declared.Levels.{Levels}
-use Rattle.rules.specs.Codes.{positiveDerating, negativeDerating, forcedWork, executed, W1, M1, Z1, R, RP}
+use Rattle.rules.specs.Codes.{positiveDerating, negativeDerating, forcedWork, executed, W1, R, RP}
 use Rattle.rules.specs.Minutes.{noLevel, aboveMax, belowMin}
 use Rattle.rules.specs.After.{warnsOverlap, warnsMinute, warnsLeft}
 use Rattle.rules.specs.Samples.{partOf, _but_, direction, mark, identifier, stamp, created, levelled, plannedStop, begunStop, eventAt, slotOf}

@@ -1,17 +1,15 @@
 -- Question 1, clause by clause, and question 20: bytes that are whole, and with one field altered are not.
-use Prim.Native.Nat.{ℕ, _+_, _*_, _-_}
+use Prim.Native.Nat.{ℕ, _+_}
 use mathlib.Core.List.{List, [], _∷_, _++_}
 use mathlib.Core.Bool.{Bool, true, not}
 use lib.ListN.{replicate}
-use Rattle.fields.specs.Lists.{part, joined}
-use Rattle.quantities.specs.declared.Minute.{Minute}
-use Rattle.rules.specs.declared.RosterEntry.{RosterEntry}
-use Rattle.rules.specs.Codes.{stop, positiveDerating, negativeDerating, forcedWork, offGrid, executed, W1, M1, Z1, A, R, RO, U1, U2, P, RP}
+use Rattle.fields.specs.Lists.{part}
+use Rattle.rules.specs.Codes.{positiveDerating, W1, M1, Z1, A, R, RO, U1, U2, P, RP}
 use Rattle.rules.specs.Roster.{entryGood, piecesPass, rosterGood}
 use Rattle.rules.specs.Block.{zeros, unitHead, recordIn, partsIn}
 use Rattle.rules.specs.Whole.{headInRange, recordHolds, slotWhole, slotsApart, blockWhole, registerWhole}
-use Rattle.rules.specs.Samples.{D, minute, _but_, byte, half, word, direction, mark, identifier, stamp, created, levelled, plannedStop, begunStop, slotOf, entryBytes}
-use Rattle.rules.specs.Boundaries.Tests.{entryW, entryM, entryZ, entryA, rosterB, unitW, unitM, row, lastStamp, positive, negative, forced, offGridAt, held}
+use Rattle.rules.specs.Samples.{D, minute, _but_, byte, half, word, direction, identifier, created, levelled, plannedStop, begunStop, slotOf, entryBytes}
+use Rattle.rules.specs.Boundaries.Tests.{entryW, entryM, entryZ, entryA, rosterB, unitW, unitM, row, positive, negative, forced, offGridAt, held}
 use Rattle.rules.specs.Boundaries.Form.{lastTime, noTime, stepped, minutes}
 
 abbrev pub good : List ℕ → Bool

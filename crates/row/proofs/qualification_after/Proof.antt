@@ -1,7 +1,7 @@
 use Rattle.rules.specs.Questions.{qualificationAfter}
 use borrow.Author.Needs.{needs}
-use Rattle.records.proofs.qualification_after.Statement.{statement}
-use Rattle.records.proofs.qualification_after.Tie as tie
+use Rattle.row.proofs.qualification_after.Statement.{statement}
+use Rattle.row.proofs.qualification_after.Tie as tie
 
 returns : tie.Need-returns
 unfolding qualificationAfter
