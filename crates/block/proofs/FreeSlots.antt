@@ -73,15 +73,15 @@ module _ (b : List ℕ) (long : length b ≡ blockSize) (kind : ℕ) (last : Min
 
   -- the loop over the others is through
   pub slots-through : {i end : ℕ} {r : Bool} → FreeFrom b end
-      → Tested (λ j. slotWhole kind last (slotAt b j)) (λ j. j) slotCount true i → i ≡ end
-      → r ≡ zerosAt b (headSize + slotSize * end) (blockSize - (headSize + slotSize * end))
+      → Tested (λ j. slotWhole kind last (slotAt b j)) (λ j. j) slotCount true i → end ≤ i
+      → r ≡ zerosAt b (headSize + slotSize * i) (blockSize - (headSize + slotSize * i))
       → r ≡ all (λ i. slotWhole kind last (slotAt b i)) (series (λ i. i) 0 slotCount)
   slots-through {i} {end} w t e a =
-      let most = w .most in
-      let size : blockSize - (headSize + slotSize * end) ≡ slotSize * (slotCount - end) = omega arith in
-      a ∙ ap (zerosAt b (headSize + slotSize * end)) size
-      ∙ slots-free end (slotCount - end) (omega arith) (λ j l m. w .free j l m)
-      ∙ sym (t .so-far ∙ rw e)
+      let most = t .most in
+      let size : blockSize - (headSize + slotSize * i) ≡ slotSize * (slotCount - i) = omega arith in
+      a ∙ ap (zerosAt b (headSize + slotSize * i)) size
+      ∙ slots-free i (slotCount - i) (omega arith) (λ j l m. w .free j (omega arith) m)
+      ∙ sym (t .so-far)
 
 -- a free slot is apart from those below it
 apart-free : (b : List ℕ) (i : ℕ) → used (slotAt b i) ≡ false
@@ -90,10 +90,10 @@ unfolding slotsApart
 apart-free b i e = all-intro (λ j. slotsApart (slotAt b i) (slotAt b j)) (λ j. j) 0 i (λ j l h. rw e)
 
 pub apart-through : (b : List ℕ) {i end : ℕ} {ok : Bool} → FreeFrom b end
-    → Tested (λ i. all (λ j. slotsApart (slotAt b i) (slotAt b j)) (series (λ j. j) 0 i)) (λ i. i) slotCount ok i → i ≡ end
+    → Tested (λ i. all (λ j. slotsApart (slotAt b i) (slotAt b j)) (series (λ j. j) 0 i)) (λ i. i) slotCount ok i → end ≤ i
     → ok ≡ all (λ i. all (λ j. slotsApart (slotAt b i) (slotAt b j)) (series (λ j. j) 0 i)) (series (λ i. i) 0 slotCount)
 apart-through b {i} {end} {ok} w t e =
-    let most = w .most in
+    let most = t .most in
     let rest = all-intro (λ i. all (λ j. slotsApart (slotAt b i) (slotAt b j)) (series (λ j. j) 0 i)) (λ i. i) i (slotCount - i)
     (λ v l h. apart-free b v (w .free v (omega arith) (omega arith))) in
     sym (t .so-far ∙ rw rest (and-true ok))

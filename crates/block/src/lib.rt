@@ -314,13 +314,16 @@ fn slots_whole(kind: u8, last: Minute, b: &[u8], end: u8) -> bool
     requires { ⌜ FreeFrom (now b) end ⌝ }
     ensures { λ r. ⌜ r ≡ all (λ i. slotWhole kind last (slotAt (now (b .entry)) i)) (series (λ i. i) 0 8) ⌝ }
 {
-    for i in 0..end {
+    for i in 0..8u8 {
+        if end <= i {
+            let from = 64 + 888 * (i as usize);
+            return zeros_at(b, from, 7168 - from);
+        }
         if !slot_whole(kind, last, slot_at(b, i)) {
             return false;
         }
     }
-    let from = 64 + 888 * (end as usize);
-    zeros_at(b, from, 7168 - from)
+    true
 }
 
 // A record and what is in a slot.
@@ -361,7 +364,10 @@ fn slots_apart(b: &[u8], end: u8) -> bool
     ensures { λ a. ⌜ a ≡ all (λ i. all (λ j. slotsApart (slotAt (now (b .entry)) i) (slotAt (now (b .entry)) j)) (series (λ j. j) 0 i)) (series (λ i. i) 0 8) ⌝ }
 {
     let mut ok = true;
-    for i in 0..end {
+    for i in 0..8u8 {
+        if end <= i {
+            return ok;
+        }
         ok = ok & slot_apart_below(b, i);
     }
     ok
