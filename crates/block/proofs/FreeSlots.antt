@@ -89,14 +89,15 @@ apart-free : (b : List ℕ) (i : ℕ) → used (slotAt b i) ≡ false
 unfolding slotsApart
 apart-free b i e = all-intro (λ j. slotsApart (slotAt b i) (slotAt b j)) (λ j. j) 0 i (λ j l h. rw e)
 
-pub apart-through : (b : List ℕ) {i end : ℕ} {ok : Bool} → FreeFrom b end
-    → Tested (λ i. all (λ j. slotsApart (slotAt b i) (slotAt b j)) (series (λ j. j) 0 i)) (λ i. i) slotCount ok i → end ≤ i
-    → ok ≡ all (λ i. all (λ j. slotsApart (slotAt b i) (slotAt b j)) (series (λ j. j) 0 i)) (series (λ i. i) 0 slotCount)
-apart-through b {i} {end} {ok} w t e =
-    let most = t .most in
-    let rest = all-intro (λ i. all (λ j. slotsApart (slotAt b i) (slotAt b j)) (series (λ j. j) 0 i)) (λ i. i) i (slotCount - i)
-    (λ v l h. apart-free b v (w .free v (omega arith) (omega arith))) in
-    sym (t .so-far ∙ rw rest (and-true ok))
+-- where only the first slot is used, all are apart
+pub apart-few : (b : List ℕ) {end : ℕ} → FreeFrom b end → end ≤ 1
+    → true ≡ all (λ i. all (λ j. slotsApart (slotAt b i) (slotAt b j)) (series (λ j. j) 0 i)) (series (λ i. i) 0 slotCount)
+unfolding all series
+apart-few b w few =
+    sym (all-intro (λ i. all (λ j. slotsApart (slotAt b i) (slotAt b j)) (series (λ j. j) 0 i)) (λ i. i) 0 slotCount each) where
+  each : (i : ℕ) → 0 ≤ i → i < 0 + slotCount → all (λ j. slotsApart (slotAt b i) (slotAt b j)) (series (λ j. j) 0 i) ≡ true
+  each zero l h = refl
+  each (suc i) l h = apart-free b (suc i) (w .free (suc i) (omega arith) (omega arith))
 
 -- the search for the last used slot
 pub record Searched (b : List ℕ) (end i : ℕ) : Type 0 where

@@ -359,15 +359,11 @@ fn slot_apart_below(b: &[u8], i: u8) -> bool
     }
 }
 
-fn slots_apart(b: &[u8], end: u8) -> bool
-    requires { ⌜ FreeFrom (now b) end ⌝ }
+fn slots_apart(b: &[u8]) -> bool
     ensures { λ a. ⌜ a ≡ all (λ i. all (λ j. slotsApart (slotAt (now (b .entry)) i) (slotAt (now (b .entry)) j)) (series (λ j. j) 0 i)) (series (λ i. i) 0 8) ⌝ }
 {
     let mut ok = true;
     for i in 0..8u8 {
-        if end <= i {
-            return ok;
-        }
         ok = ok & slot_apart_below(b, i);
     }
     ok
@@ -399,7 +395,10 @@ pub fn block_whole(unit: u16, b: &[u8]) -> bool
     if !slots_whole(h.kind, h.last_stamp, b, end) {
         return false;
     }
-    slots_apart(b, end)
+    if end <= 1 {
+        return true;
+    }
+    slots_apart(b)
 }
 
 fn blocks_whole(register: &[u8], n: u16) -> bool
