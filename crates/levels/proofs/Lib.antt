@@ -1,6 +1,7 @@
 pub mod Spans
 pub mod Parts
 pub mod Counted
-pub mod Tracks
+pub mod Choosing
 pub mod Turns
+pub mod Stretches
 pub mod Within
