@@ -12,10 +12,8 @@ use lib.Dec.{leb, ltb, eqb}
 use Rattle.fields.specs.Lists.{pick, series}
 use Rattle.fields.proofs.Tests.{series-more}
 use Rattle.quantities.specs.declared.Minute.{Minute}
-use Rattle.quantities.specs.declared.Kilowatt.{Kilowatt}
-use Rattle.quantities.specs.Quantities.{sizeOf}
-use Rattle.report.specs.declared.Part.{Part}
-use Rattle.report.specs.Report.{partAt}
+use Rattle.report.specs.declared.PartLevel.{PartLevel}
+use Rattle.report.specs.Report.{partLevel}
 use Rattle.rules.specs.declared.Level.{Level}
 use Rattle.rules.specs.Minutes.{noLevel}
 use Rattle.block.specs.declared.Pair.{Pair}
@@ -29,10 +27,10 @@ use Rattle.levels.specs.Stays.{Holds, Stays}
 use Rattle.levels.proofs.Spans.{Sooner}
 
 -- a pair as the code reads it
-pub pair-in-report : (s z : List ℕ) (t : Bool) (j : ℕ) {p : Part} {k : Kilowatt} → t ≡ true → p ≡ partAt s j → k ≡ sizeOf (p .power)
-    → record { end = p .period .end; power = k } ≡ pairOf s z t j
+pub pair-in-report : (s z : List ℕ) (t : Bool) (j : ℕ) {p : PartLevel} → t ≡ true → p ≡ partLevel s j
+    → record { end = p .end; power = p .power } ≡ pairOf s z t j
 unfolding pairOf pick
-pair-in-report s z t j e q w = rw (w, q) (sym (ap (λ (t : Bool). pairOf s z t j) e))
+pair-in-report s z t j e q = rw q (sym (ap (λ (t : Bool). pairOf s z t j) e))
 
 pub pair-in-slot : (s z : List ℕ) (t : Bool) (j : ℕ) {p : Pair} → t ≡ false → p ≡ pairAt z j → p ≡ pairOf s z t j
 unfolding pairOf pick

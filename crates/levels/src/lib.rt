@@ -107,9 +107,9 @@ fn pair_of(report: &[u8], slot: &[u8], in_report: bool, j: u16) -> Pair
     ensures { λ r. ⌜ r ≡ pairOf (now (report .entry)) (now (slot .entry)) «in_report» j ⌝ }
 {
     if in_report {
-        let part = report::part_at(report, j);
-        let end = part.period.end;
-        let power = quantities::size_of(part.power);
+        let part = report::part_level(report, j);
+        let end = part.end;
+        let power = part.power;
         return Pair { end, power };
     }
     block::pair_at(slot, j)
