@@ -4,4 +4,5 @@ pub mod Counted
 pub mod Choosing
 pub mod Turns
 pub mod Stretches
+pub mod Bounds
 pub mod Within

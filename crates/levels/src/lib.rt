@@ -19,11 +19,12 @@ ghost use Prim.Native.Nat.{_-_, _<_, _≤_};
 ghost use Rattle.fields.specs.Lists.{series};
 ghost use Rattle.rules.specs.Block.{slotAt};
 ghost use Rattle.quantities.specs.Quantities.{earlierOf};
-ghost use Rattle.rules.specs.Minutes.{noLevel, orElse, fitsW1M1, fitsZ1, levelsFit, aboveMax, belowMin};
+ghost use Rattle.rules.specs.Minutes.{noLevel, orElse, fitsW1M1, fitsZ1, levelsFit, aboveMax, belowMin, levelsEvery};
 ghost use Rattle.levels.specs.Pairs.{pairOf, levelAmongPairs, Passed};
 ghost use Rattle.levels.specs.Counted.{countedRecords, sweptRecords};
 ghost use Rattle.levels.specs.Lanes.{noLane, laneOf, reportLane, slotLane, laneAt, laneIn, laneLevel, laneLevels, levelsOf, Stepped, Placed, Held, Chosen, chosenLevels, choiceLevels, spanAt, placeAfter, AheadAll, besideOf, soonest, Ready};
 ghost use Rattle.levels.specs.Result.{withSpan, bothFound, foundIn, Ran, sweepResult};
+ghost use Rattle.levels.specs.Extremes.{WiderBy, CoversType, extremesFit};
 ghost use Rattle.levels.specs.Within.{powerWithin, pairsWithin, slotWithin, forcedWithin, levelWarnings};
 
 // A level, and a later minute up to which it stays.
@@ -70,6 +71,13 @@ pub struct Choices {
     pub forced: Choice,
     pub positive: Choice,
     pub negative: Choice,
+}
+
+// The lowest and the highest power of a type, where it has one.
+pub struct Extremes {
+    pub there: bool,
+    pub lowest: Kilowatt,
+    pub highest: Kilowatt,
 }
 
 // Question 17, and warnings 2 and 4.
@@ -340,11 +348,11 @@ fn level_at(report: &[u8], slot: &[u8], c: Choice, place: u16) -> LevelSpan
 }
 
 // The place after a minute: one more where its pair has ended.
-fn place_after(place: u16, count: u16, end: Minute, m: Minute) -> u16
+fn place_after(place: u16, count: u16, until: Minute, m: Minute) -> u16
     requires { ⌜ place < count ⌝ }
-    ensures { λ r. ⌜ r ≡ placeAfter place (end .0) (m .0) ⌝ }
+    ensures { λ r. ⌜ r ≡ placeAfter place (until .0) (m .0) ⌝ }
 {
-    if end.0 <= m.0 { place + 1 } else { place }
+    if until.0 <= m.0 { place + 1 } else { place }
 }
 
 // The three levels, up to the first change of one.
@@ -596,6 +604,114 @@ pub fn sweep(
         kind,
         range,
     )
+}
+
+fn lower(p: Kilowatt, q: Kilowatt) -> Kilowatt
+    ensures { λ r. ⌜ (r .0 ≤ p .0) × (r .0 ≤ q .0) ⌝ }
+{
+    if p.0 < q.0 { p } else { q }
+}
+
+fn higher(p: Kilowatt, q: Kilowatt) -> Kilowatt
+    ensures { λ r. ⌜ (p .0 ≤ r .0) × (q .0 ≤ r .0) ⌝ }
+{
+    if p.0 < q.0 { q } else { p }
+}
+
+// The extremes of a lane's pairs and of what was seen before.
+fn extremes_in(report: &[u8], slot: &[u8], in_report: bool, count: u16, seen: Extremes) -> Extremes
+    ensures { λ r. ⌜ WiderBy (pairOf (now (report .entry)) (now (slot .entry)) «in_report») count seen r ⌝ }
+{
+    let mut e = seen;
+    for j in 0..count {
+        let pair = pair_of(report, slot, in_report, j);
+        let lowest = lower(e.lowest, pair.power);
+        let highest = higher(e.highest, pair.power);
+        e = Extremes {
+            there: true,
+            lowest,
+            highest,
+        };
+    }
+    e
+}
+
+// The extremes of the lanes of a type that share a minute with the period.
+fn extremes_of(
+    b: &[u8],
+    report: &[u8],
+    lanes: [Lane; 9],
+    record_type: u8,
+    period: Period,
+) -> Extremes
+    ensures { λ r. ⌜ CoversType (now (b .entry)) (now (report .entry)) lanes «record_type» period r ⌝ }
+{
+    let lowest = Kilowatt(4294967295);
+    let highest = Kilowatt(0);
+    let mut e = Extremes {
+        there: false,
+        lowest,
+        highest,
+    };
+    let mut i = 0u8;
+    while i < 9 {
+        let at = i;
+        i += 1;
+        let lane = lanes[at as usize];
+        if (lane.record_type == record_type) & quantities::overlapping(lane.period, period) {
+            e = extremes_in(report, lane_slot(b, at), at == 0, lane.count, e);
+        }
+    }
+    e
+}
+
+fn extremes_fit(kind: u8, range: PowerRange, f: Extremes, p: Extremes, n: Extremes) -> bool
+    ensures { λ r. ⌜ r ≡ extremesFit kind range f p n ⌝ }
+{
+    let power = p.highest;
+    let there = p.there;
+    let positive = Level { there, power };
+    let power = n.highest;
+    let there = n.there;
+    let negative = Level { there, power };
+    let power = f.highest;
+    let there = f.there;
+    let forced = Level { there, power };
+    let highest = Levels {
+        forced,
+        positive,
+        negative,
+    };
+    let power = f.lowest;
+    let forced = Level { there, power };
+    let lowest = Levels {
+        forced,
+        positive,
+        negative,
+    };
+    levels_fit(kind, range, highest) & levels_fit(kind, range, lowest)
+}
+
+// Question 17 in every minute of a period, of the records of one direction. Only where the extremes do not fit is it swept.
+pub fn fits(
+    b: &[u8],
+    report: &[u8],
+    swept: Swept,
+    direction: u8,
+    period: Period,
+    kind: u8,
+    range: PowerRange,
+) -> bool
+    ensures { λ r. ⌜ r ≡ levelsEvery (levelsFit kind range) (sweptRecords (now (b .entry)) (now (report .entry)) (swept .counted) (swept .«with_report»)) direction (period .start .0) (period .end .0) ⌝ }
+{
+    let lanes = lanes_of(b, report, swept, direction);
+    let forced = extremes_of(b, report, lanes, FORCED_WORK, period);
+    let positive = extremes_of(b, report, lanes, POSITIVE_DERATING, period);
+    let negative = extremes_of(b, report, lanes, NEGATIVE_DERATING, period);
+    if extremes_fit(kind, range, forced, positive, negative) {
+        return true;
+    }
+    sweep_lanes(b, report, lanes, period, kind, range).fits
 }
 
 // What warnings 2 and 4 ask of a level itself.
