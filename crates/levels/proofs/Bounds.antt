@@ -25,7 +25,7 @@ use Rattle.levels.specs.declared.SweepResult.{SweepResult}
 use Rattle.levels.specs.Pairs.{pairOf, levelAmongPairs}
 use Rattle.levels.specs.Lanes.{laneIn, lanePair, laneLevel, levelAmongLanes, laneLevels}
 use Rattle.levels.specs.Extremes.{Covers, Wider, WiderBy, CoversType, extremeLevels, extremesFit}
-use Rattle.levels.specs.Result.{foundIn, sweepResult}
+use Rattle.levels.specs.Result.{sweepResult}
 
 none-covers : (e : Extremes) → Covers e noLevel
 none-covers e = record { there = λ t. absurd (false≢true t); low = λ t. absurd (false≢true t); high = omega arith }
@@ -108,7 +108,8 @@ module _ (b s : List ℕ) (lanes : List Lane) (type : ℕ) (period : Period) whe
         (λ t. among-covers (lanePair b s i) r 0 (laneIn lanes i .count) k (λ j a o. own .new j (omega arith)))
         (λ t. none-covers r))
 
-    pub seen-past : {t : Bool} → t ≡ overlap (laneIn lanes i .period) period → (eqb (laneIn lanes i .«record_type») type && t) ≡ false
+    pub seen-past : {t : Bool} → t ≡ overlap (laneIn lanes i .period) period → (eqb (laneIn lanes i .«record_type») type && t) ≡
+        false
         → Seen (i + 1) e
     unfolding laneLevel
     seen-past {t} q apart =

@@ -1,11 +1,11 @@
 -- The lane that a sweep chooses for a type, and the lanes it chooses from. Assumes nothing.
 use Prim.Native.Nat.{ℕ, zero, suc, _+_, _-_, _≤_, _<_}
 use mathlib.Core.Path.{_≡_, refl, ap, sym, _∙_, subst}
-use mathlib.Core.Bool.{Bool, true, false, _&&_, false≢true}
+use mathlib.Core.Bool.{Bool, true, false, false≢true}
 use mathlib.Core.List.{List}
 use native.Mathlib.Omega.{arith}
 use native.Mathlib.Nat.{zero-add}
-use lib.Dec.{leb, ltb, eqb}
+use lib.Dec.{eqb}
 use lib.ListN.{length, getD, set, take, replicate, length-set}
 use lib.Seq.{getD-set-same, getD-set-other}
 use borrow.Author.Tests.{eqb-true, eqb-false, ne-eqb, le-leb, lt-leb}
@@ -24,7 +24,7 @@ use Rattle.levels.specs.declared.Swept.{Swept}
 use Rattle.levels.specs.Pairs.{pairOf, levelAmongPairs, Passed}
 use Rattle.levels.specs.Lanes.{noLane, laneAt, laneIn, lanePair, laneLevel, levelAmongLanes, laneLevels, Placed, chosenPair, chosenLevel, Ahead, Held, Chosen, besideOf, spanAt, placeAfter}
 use Rattle.levels.specs.Counted.{sweptRecords}
-use Rattle.levels.specs.Stays.{Holds, Stays}
+use Rattle.levels.specs.Stays.{Stays}
 use Rattle.levels.proofs.Spans.{Sooner}
 use Rattle.levels.proofs.Parts.{passed-none, passed-later}
 use Rattle.levels.proofs.Counted.{lanes-level}
@@ -73,7 +73,8 @@ module _ (b s : List ℕ) (lanes : List Lane) where
           let n = h .size in
           record {
             size = simp length-set (omega arith);
-            at = set-keeps (λ j place. j < 9 → Passed (lanePair b s j) (laneIn lanes j .count) place m) places 0 i place (omega arith)
+            at = set-keeps (λ j place. j < 9 → Passed (lanePair b s j) (laneIn lanes j .count) place m) places 0 i place (omega
+                arith)
                 (λ _. subst (λ (z : List ℕ). Passed (pairOf s z (eqb i 0)) (laneIn lanes i .count) place m) read p)
                 (λ j ne. h .at j);
           }
@@ -114,7 +115,8 @@ module _ (b s : List ℕ) (lanes : List Lane) where
             → laneLevel (laneIn lanes i) (lanePair b s i) type k ≡ v
         of-type k e =
             ap (λ (type : ℕ). laneLevel (laneIn lanes i) (lanePair b s i) type k) (sym own)
-            ∙ ap (λ (z : List ℕ). laneLevel (laneIn lanes i) (pairOf s z (eqb i 0)) (laneIn lanes i .«record_type») k) (sym read) ∙ e
+            ∙ ap (λ (z : List ℕ). laneLevel (laneIn lanes i) (pairOf s z (eqb i 0)) (laneIn lanes i .«record_type») k) (sym read)
+            ∙ e
 
         pub looked-miss : {span : LevelSpan} {next : ℕ}
             → Stays (laneLevel (laneIn lanes i) (pairOf s z (eqb i 0)) (laneIn lanes i .«record_type»)) m span
@@ -154,20 +156,21 @@ module _ (b s : List ℕ) (lanes : List Lane) where
                   ∙ ap (λ (z : List ℕ). levelAmongPairs (series (pairOf s z (eqb i 0)) 0 (laneIn lanes i .count)) k) read;
             }
 
-    pub looked-all : {i m : ℕ} {until : Minute} → Looked i m (until .0) → 9 ≤ i → Chosen b s lanes type m (record {
+    pub looked-all : {i m : ℕ} {until : Minute} {r : Choice} → Looked i m (until .0) → 9 ≤ i → r ≡ record {
       there = false;
       lane = 0;
       count = 0;
       place = 0;
       until = until;
-    })
+    } → Chosen b s lanes type m r
     unfolding levelAmongLanes chosenLevel pick
-    looked-all {i} h l =
+    looked-all {i} {m} h l e =
         let none : 9 - i ≡ 0 = omega arith in
-        record {
+        subst (λ (r : Choice). Chosen b s lanes type m r) (sym e)
+        (record {
           stands = record { later = h .later; ahead = λ t. absurd (false≢true t) };
           same = λ k x y. h .rest k x y ∙ rw none;
-        }
+        })
 
 -- lanes that are alike have the same levels
 levels-same : (b s : List ℕ) (x y : ℕ → Lane) (type i n m : ℕ) → ((j : ℕ) → j < i + n → x j ≡ y j)

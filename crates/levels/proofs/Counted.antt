@@ -25,7 +25,7 @@ use Rattle.block.specs.declared.Pair.{Pair}
 use Rattle.levels.specs.declared.Lane.{Lane}
 use Rattle.levels.specs.declared.Swept.{Swept}
 use Rattle.levels.specs.Pairs.{pairOf, levelAmongPairs}
-use Rattle.levels.specs.Lanes.{noLane, laneOf, reportLane, slotLane, laneAt, lanePair, laneLevel, levelAmongLanes}
+use Rattle.levels.specs.Lanes.{noLane, laneOf, reportLane, slotLane, laneAt, laneLevel, levelAmongLanes}
 use Rattle.levels.specs.Counted.{sweptRecords}
 
 -- the pairs of a report's parts, and of a slot

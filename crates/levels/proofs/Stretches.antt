@@ -1,13 +1,13 @@
 -- Along the lanes chosen: what a turn keeps, and what the choices of a minute say of the lanes' levels. Assumes nothing.
-use Prim.Native.Nat.{ℕ, _+_, _-_, _≤_, _<_}
+use Prim.Native.Nat.{ℕ, _-_, _≤_, _<_}
 use mathlib.Core.Path.{_≡_, refl, ap, sym, _∙_, subst}
-use mathlib.Core.Bool.{Bool, true, false}
+use mathlib.Core.Bool.{true, false}
 use mathlib.Core.List.{List}
 use mathlib.Core.Logic.{⊎-elim}
 use native.Mathlib.Omega.{arith}
-use lib.Dec.{leb, eqb}
+use lib.Dec.{leb}
 use borrow.Author.Tests.{leb-true}
-use Rattle.fields.specs.Lists.{pick, series}
+use Rattle.fields.specs.Lists.{pick}
 use Rattle.fields.proofs.Bools.{lt-or-le, pick-elim}
 use Rattle.quantities.specs.declared.Minute.{Minute}
 use Rattle.quantities.specs.Quantities.{earlierOf}
@@ -24,7 +24,7 @@ use Rattle.levels.specs.declared.LevelSpan.{LevelSpan}
 use Rattle.levels.specs.declared.LevelsSpan.{LevelsSpan}
 use Rattle.levels.specs.declared.Stretch.{Stretch}
 use Rattle.levels.specs.declared.SweepResult.{SweepResult}
-use Rattle.levels.specs.Pairs.{levelAmongPairs, Passed}
+use Rattle.levels.specs.Pairs.{Passed}
 use Rattle.levels.specs.Lanes.{laneIn, laneLevels, levelsOf, chosenPair, chosenLevel, chosenLevels, choiceLevel, choiceLevels, Ahead, AheadIn, AheadAll, Standing, Chosen, Ready, soonest, besideOf, spanAt, placeAfter}
 use Rattle.levels.specs.Result.{withSpan, bothFound, foundIn, Ran}
 use Rattle.levels.specs.Stays.{Holds, Stays}
@@ -38,7 +38,8 @@ module _ (s z : List ℕ) (c : Choice) (place : ℕ) {x : LevelSpan} (read : x �
   unfolding spanAt
   span-end = ap (λ (x : LevelSpan). x .until .0) read
 
-  chosen-stays : {m : ℕ} → Passed (chosenPair s z c) (c .count) place m → place < c .count → m < x .until .0 → Stays (chosenLevel s z c) m x
+  chosen-stays : {m : ℕ} → Passed (chosenPair s z c) (c .count) place m → place < c .count → m < x .until .0 → Stays (chosenLevel
+      s z c) m x
   unfolding chosenLevel spanAt
   chosen-stays {m} h l e =
       let end = span-end in
@@ -222,8 +223,10 @@ module _ (b s : List ℕ) (cs : Choices) {m : ℕ} {end : Minute} (h : Ready b s
         record {
           forced = subst (λ (z : List ℕ). AheadIn s z (cs .forced) m (three .0)) (sym rf)
               (ahead-less (h .forced .ahead (h .chosen)) (omega arith));
-          positive = beside-ahead b s (cs .positive) (cs .forced) qp rp (h .chosen) (h .forced) (h .positive) (omega arith) (omega arith);
-          negative = beside-ahead b s (cs .negative) (cs .forced) qn rn (h .chosen) (h .forced) (h .negative) (omega arith) (omega arith);
+          positive = beside-ahead b s (cs .positive) (cs .forced) qp rp (h .chosen) (h .forced) (h .positive) (omega arith) (omega
+              arith);
+          negative = beside-ahead b s (cs .negative) (cs .forced) qn rn (h .chosen) (h .forced) (h .negative) (omega arith) (omega
+              arith);
         },
       )
 

@@ -18,8 +18,7 @@ ghost use mathlib.Core.Bool.{true, false};
 ghost use Prim.Native.Nat.{_-_, _<_, _≤_};
 ghost use Rattle.fields.specs.Lists.{series};
 ghost use Rattle.rules.specs.Block.{slotAt};
-ghost use Rattle.quantities.specs.Quantities.{earlierOf};
-ghost use Rattle.rules.specs.Minutes.{noLevel, orElse, fitsW1M1, fitsZ1, levelsFit, aboveMax, belowMin, levelsEvery};
+ghost use Rattle.rules.specs.Minutes.{noLevel, fitsW1M1, fitsZ1, levelsFit, aboveMax, belowMin, levelsEvery};
 ghost use Rattle.levels.specs.Pairs.{pairOf, levelAmongPairs, Passed};
 ghost use Rattle.levels.specs.Counted.{countedRecords, sweptRecords};
 ghost use Rattle.levels.specs.Lanes.{noLane, laneOf, reportLane, slotLane, laneAt, laneIn, laneLevel, laneLevels, levelsOf, Stepped, Placed, Held, Chosen, chosenLevels, choiceLevels, spanAt, placeAfter, AheadAll, besideOf, soonest, Ready};
@@ -286,6 +285,19 @@ fn held_until(
     step.span.until
 }
 
+// No lane, up to a minute.
+fn no_choice(until: Minute) -> Choice
+    ensures { λ r. ⌜ r ≡ record { there = false; lane = 0; count = 0; place = 0; until = until } ⌝ }
+{
+    Choice {
+        there: false,
+        lane: 0,
+        count: 0,
+        place: 0,
+        until,
+    }
+}
+
 // The first lane of a type that has a level; so it is up to its last change or to the start of a lane before it.
 fn choose_lane(
     b: &[u8],
@@ -324,13 +336,7 @@ fn choose_lane(
             until = quantities::earlier(until, step.span.until);
         }
     }
-    Choice {
-        there: false,
-        lane: 0,
-        count: 0,
-        place: 0,
-        until,
-    }
+    no_choice(until)
 }
 
 // The level of a choice at a place, up to the end of the pair there.

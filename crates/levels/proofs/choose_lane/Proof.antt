@@ -20,34 +20,47 @@ loop-holds c = (looked-none _ _ _ _ (c .before .before .pre .0), c .before .befo
 level-in-requires : tie.Need-level-in-requires Inv-loop μ-loop
 level-in-requires c κs = (
   c .before .before .before .before .before .before .before .before .before .pre .0,
-  placed-at _ _ _ (c .before .before .before .before .before .loop-test .taken) (c .before .lane-slot .ensures) (c .before .before .before .before .before .before .loop .inv .1),
+  placed-at _ _ _ (c .before .before .before .before .before .loop-test .taken) (c .before .lane-slot .ensures) (c .before .before
+      .before .before .before .before .loop .inv .1),
 )
 
 returns : tie.Need-returns Inv-loop μ-loop
 returns c = (
-  looked-hit _ _ _ _ (c .before .before .before .before .before .before .before .before .before .before .loop .inv .0) (c .before .before .before .before .before .before .before .before .before .loop-test .taken) (c .before .before .before .before .before .lane-slot .ensures)
-      (c .before .before .before .before .before .before .if1 .taken) (c .before .held-until .ensures) (c .before .before .before .level-in .ensures .passed)
+  looked-hit _ _ _ _ (c .before .before .before .before .before .before .before .before .before .before .loop .inv .0) (c .before
+      .before .before .before .before .before .before .before .before .loop-test .taken) (c .before .before .before .before
+      .before .lane-slot .ensures)
+      (c .before .before .before .before .before .before .if1 .taken) (c .before .held-until .ensures) (c .before .before .before
+      .level-in .ensures .passed)
       (c .before .before .before .level-in .ensures .ends (c .before .before .if2 .taken)) (sooner (c .earlier .ensures)),
-  placed-set _ _ _ (c .before .before .before .before .before .before .before .before .before .loop-test .taken) (c .before .before .before .before .before .lane-slot .ensures) (c .before .before .before .before .before .before .before .before .before .before .loop .inv .1)
+  placed-set _ _ _ (c .before .before .before .before .before .before .before .before .before .loop-test .taken) (c .before
+      .before .before .before .before .lane-slot .ensures) (c .before .before .before .before .before .before .before .before
+      .before .before .loop .inv .1)
       (c .before .before .before .level-in .ensures .passed),
 )
 
 loop-again : tie.Need-loop-again Inv-loop μ-loop
 loop-again c = (
-  looked-miss _ _ _ _ (c .before .before .before .before .before .before .before .before .before .loop .inv .0) (c .before .before .before .before .before .before .before .before .loop-test .taken) (c .before .before .before .before .lane-slot .ensures)
-      (c .before .before .before .before .before .if1 .taken) (c .before .before .level-in .ensures .stays) (c .before .if2 .left) (sooner (c .earlier2 .ensures)),
-  placed-set _ _ _ (c .before .before .before .before .before .before .before .before .loop-test .taken) (c .before .before .before .before .lane-slot .ensures) (c .before .before .before .before .before .before .before .before .before .loop .inv .1)
+  looked-miss _ _ _ _ (c .before .before .before .before .before .before .before .before .before .loop .inv .0) (c .before .before
+      .before .before .before .before .before .before .loop-test .taken) (c .before .before .before .before .lane-slot .ensures)
+      (c .before .before .before .before .before .if1 .taken) (c .before .before .level-in .ensures .stays) (c .before .if2 .left)
+      (sooner (c .earlier2 .ensures)),
+  placed-set _ _ _ (c .before .before .before .before .before .before .before .before .loop-test .taken) (c .before .before
+      .before .before .lane-slot .ensures) (c .before .before .before .before .before .before .before .before .before .loop .inv .1)
       (c .before .before .level-in .ensures .passed),
 )
 
 loop-again-2 : tie.Need-loop-again-2 Inv-loop μ-loop
 loop-again-2 c = (
-  looked-past _ _ _ _ (c .before .before .before .before .loop .inv .0) (c .before .before .before .loop-test .taken) (c .if1 .left),
+  looked-past _ _ _ _ (c .before .before .before .before .loop .inv .0) (c .before .before .before .loop-test .taken) (c .if1
+      .left),
   c .before .before .before .before .loop .inv .1,
 )
 
 returns-2 : tie.Need-returns-2 Inv-loop μ-loop
-returns-2 c = (looked-all _ _ _ _ (c .before .loop .inv .0) (c .loop-test .left), c .before .loop .inv .1)
+returns-2 c = (
+  looked-all _ _ _ _ (c .before .before .loop .inv .0) (c .before .loop-test .left) (c .no-choice .ensures),
+  c .before .before .loop .inv .1,
+)
 
 pub choose-lane-spec : {M : Type 1} → statement M
 choose-lane-spec =
@@ -76,4 +89,5 @@ choose-lane-spec =
     loop-again
     (λ c. search needs)
     loop-again-2
+    (λ c κs. search needs)
     returns-2)

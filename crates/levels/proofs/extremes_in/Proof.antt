@@ -16,7 +16,8 @@ abbrev μ-loop : tie.MeasureT-loop
 loop-again : tie.Need-loop-again Inv-loop μ-loop
 loop-again c = (
   omega arith,
-  wider-more (c .before .before .before .before .loop .inv .1) (c .before .before .pair-of .ensures) (c .before .lower .ensures) (c .higher .ensures),
+  wider-more (c .before .before .before .before .loop .inv .1) (c .before .before .pair-of .ensures) (c .before .lower .ensures)
+      (c .higher .ensures),
 )
 
 pub extremes-in-spec : {M : Type 1} → statement M

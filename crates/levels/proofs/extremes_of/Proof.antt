@@ -12,11 +12,13 @@ abbrev μ-loop : tie.MeasureT-loop
 μ-loop b report record-type period lanes e₀ i₀ e i = 9 - i
 
 loop-again : tie.Need-loop-again Inv-loop μ-loop
-loop-again c = seen-more _ _ _ _ _ (c .before .before .before .before .before .before .before .loop .inv) (c .before .before .before .before .before .before .loop-test .taken) (c .before .lane-slot .ensures)
+loop-again c = seen-more _ _ _ _ _ (c .before .before .before .before .before .before .before .loop .inv) (c .before .before
+    .before .before .before .before .loop-test .taken) (c .before .lane-slot .ensures)
     (c .extremes-in .ensures)
 
 loop-again-2 : tie.Need-loop-again-2 Inv-loop μ-loop
-loop-again-2 c = seen-past _ _ _ _ _ (c .before .before .before .before .before .loop .inv) (c .before .before .before .before .loop-test .taken) (c .before .overlapping .ensures)
+loop-again-2 c = seen-past _ _ _ _ _ (c .before .before .before .before .before .loop .inv) (c .before .before .before .before
+    .loop-test .taken) (c .before .overlapping .ensures)
     (c .if1 .left)
 
 pub extremes-of-spec : {M : Type 1} → statement M

@@ -11,11 +11,14 @@ sub-pair-of c =
     omega arith
 
 returns : tie.Need-returns
-returns c = held-last _ (c .before .before .before .before .before .before .before .before .before .pre .0) (c .before .before .before .before .before .before .before .before .before .pre .1) (c .before .before .before .before .before .pair-of .ensures) (c .before .if1 .taken)
+returns c = held-last _ (c .before .before .before .before .before .before .before .before .before .pre .0) (c .before .before
+    .before .before .before .before .before .before .before .pre .1) (c .before .before .before .before .before .pair-of .ensures)
+    (c .before .if1 .taken)
     (sooner (c .earlier .ensures))
 
 returns-2 : tie.Need-returns-2
-returns-2 c = held-step _ (c .before .before .before .before .before .before .before .before .before .pre .0) (c .before .before .before .before .before .before .before .before .before .pre .1)
+returns-2 c = held-step _ (c .before .before .before .before .before .before .before .before .before .pre .0) (c .before .before
+    .before .before .before .before .before .before .before .pre .1)
 
 pub held-until-spec : {M : Type 1} → statement M
 held-until-spec =

@@ -14,33 +14,65 @@ abbrev μ-loop : tie.MeasureT-loop
 μ-loop report f p n chosen kind range end i₀ j₀ k₀ m₀ found₀ i j k m found = end .0 - m .0
 
 loop-holds : tie.Need-loop-holds Inv-loop μ-loop
-loop-holds c = along-none _ _ _ _ _ _ _ (c .before .before .before .before .before .before .before .pre .1) (c .before .before .before .before .before .before .before .pre .0) (c .nothing-found .ensures)
+loop-holds c = along-none _ _ _ _ _ _ _ (c .before .before .before .before .before .before .before .pre .1) (c .before .before
+    .before .before .before .before .before .pre .0) (c .nothing-found .ensures)
 
 returns : tie.Need-returns Inv-loop μ-loop
-returns c = along-stops _ _ _ _ _ _ _ (c .before .before .before .before .before .before .before .before .before .before .before .before .before .before .before .before .before .before .before .pre .1) (c .before .before .before .before .before .before .before .before .before .before .before .before .before .before .before .before .before .before .before .pre .0) (c .before .before .before .before .before .before .before .before .before .before .before .loop .inv) (c .before .before .before .before .before .before .before .before .if1 .taken)
-    (c .before .before .before .before .before .before .before .level-at .ensures) (c .before .before .before .before .before .before .level-at2 .ensures)
-    (c .before .before .before .before .before .level-at3 .ensures) (c .before .before .before .before .levels-of .ensures) (c .before .before .before .earlier .ensures) (c .if2 .taken) refl refl
+returns c = along-stops _ _ _ _ _ _ _ (c .before .before .before .before .before .before .before .before .before .before .before
+    .before .before .before .before .before .before .before .before .pre .1) (c .before .before .before .before .before .before
+    .before .before .before .before .before .before .before .before .before .before .before .before .before .pre .0) (c .before
+    .before .before .before .before .before .before .before .before .before .before .loop .inv) (c .before .before .before .before
+    .before .before .before .before .if1 .taken)
+    (c .before .before .before .before .before .before .before .level-at .ensures) (c .before .before .before .before .before
+    .before .level-at2 .ensures)
+    (c .before .before .before .before .before .level-at3 .ensures) (c .before .before .before .before .levels-of .ensures) (c
+    .before .before .before .earlier .ensures) (c .if2 .taken) refl refl
 
 place-after-requires : tie.Need-place-after-requires Inv-loop μ-loop
 place-after-requires c κs =
-    forced-place _ _ _ _ _ _ _ (c .before .before .before .before .before .before .before .before .before .before .before .before .before .before .before .before .before .before .before .before .before .pre .1) (c .before .before .before .before .before .before .before .before .before .before .before .before .before .before .before .before .before .before .before .before .before .pre .0) (c .before .before .before .before .before .before .before .before .before .before .before .before .before .loop .inv) (c .before .before .before .before .before .before .before .before .before .before .if1 .taken)
+    forced-place _ _ _ _ _ _ _ (c .before .before .before .before .before .before .before .before .before .before .before .before
+    .before .before .before .before .before .before .before .before .before .pre .1) (c .before .before .before .before
+    .before .before .before .before .before .before .before .before .before .before .before .before .before .before .before
+    .before .before .pre .0) (c .before .before .before .before .before .before .before .before .before .before .before
+    .before .before .loop .inv) (c .before .before .before .before .before .before .before .before .before .before .if1 .taken)
 
 place-after-requires-2 : tie.Need-place-after-requires-2 Inv-loop μ-loop
 place-after-requires-2 c κs =
-    positive-place _ _ _ _ _ _ _ (c .before .before .before .before .before .before .before .before .before .before .before .before .before .before .before .before .before .before .before .before .before .before .pre .1) (c .before .before .before .before .before .before .before .before .before .before .before .before .before .before .before .before .before .before .before .before .before .before .pre .0) (c .before .before .before .before .before .before .before .before .before .before .before .before .before .before .loop .inv) (c .before .before .before .before .before .before .before .before .before .before .before .if1 .taken)
+    positive-place _ _ _ _ _ _ _ (c .before .before .before .before .before .before .before .before .before .before .before
+    .before .before .before .before .before .before .before .before .before .before .before .pre .1) (c .before .before
+    .before .before .before .before .before .before .before .before .before .before .before .before .before .before .before
+    .before .before .before .before .before .pre .0) (c .before .before .before .before .before .before .before .before
+    .before .before .before .before .before .before .loop .inv) (c .before .before .before .before .before .before .before
+    .before .before .before .before .if1 .taken)
 
 place-after-requires-3 : tie.Need-place-after-requires-3 Inv-loop μ-loop
 place-after-requires-3 c κs =
-    negative-place _ _ _ _ _ _ _ (c .before .before .before .before .before .before .before .before .before .before .before .before .before .before .before .before .before .before .before .before .before .before .before .pre .1) (c .before .before .before .before .before .before .before .before .before .before .before .before .before .before .before .before .before .before .before .before .before .before .before .pre .0) (c .before .before .before .before .before .before .before .before .before .before .before .before .before .before .before .loop .inv) (c .before .before .before .before .before .before .before .before .before .before .before .before .if1 .taken)
+    negative-place _ _ _ _ _ _ _ (c .before .before .before .before .before .before .before .before .before .before .before
+    .before .before .before .before .before .before .before .before .before .before .before .before .pre .1) (c .before
+    .before .before .before .before .before .before .before .before .before .before .before .before .before .before .before
+    .before .before .before .before .before .before .before .pre .0) (c .before .before .before .before .before .before
+    .before .before .before .before .before .before .before .before .before .loop .inv) (c .before .before .before .before
+    .before .before .before .before .before .before .before .before .if1 .taken)
 
 loop-again : tie.Need-loop-again Inv-loop μ-loop
-loop-again c = along-turn _ _ _ _ _ _ _ (c .before .before .before .before .before .before .before .before .before .before .before .before .before .before .before .before .before .before .before .before .before .before .before .before .pre .1) (c .before .before .before .before .before .before .before .before .before .before .before .before .before .before .before .before .before .before .before .before .before .before .before .before .pre .0) (c .before .before .before .before .before .before .before .before .before .before .before .before .before .before .before .before .loop .inv) (c .before .before .before .before .before .before .before .before .before .before .before .before .before .if1 .taken)
-    (c .before .before .before .before .before .before .before .before .before .before .before .before .level-at .ensures) (c .before .before .before .before .before .before .before .before .before .before .before .level-at2 .ensures)
-    (c .before .before .before .before .before .before .before .before .before .before .level-at3 .ensures) (c .before .before .before .before .before .before .before .before .before .levels-of .ensures) (c .before .before .before .before .before .before .before .before .earlier .ensures) (c .before .before .before .before .before .if2 .left) (c .before .before .before .add-span .ensures)
+loop-again c = along-turn _ _ _ _ _ _ _ (c .before .before .before .before .before .before .before .before .before .before .before
+    .before .before .before .before .before .before .before .before .before .before .before .before .before .pre .1) (c .before
+    .before .before .before .before .before .before .before .before .before .before .before .before .before .before .before
+    .before .before .before .before .before .before .before .before .pre .0) (c .before .before .before .before .before .before
+    .before .before .before .before .before .before .before .before .before .before .loop .inv) (c .before .before .before .before
+    .before .before .before .before .before .before .before .before .before .if1 .taken)
+    (c .before .before .before .before .before .before .before .before .before .before .before .before .level-at .ensures) (c
+    .before .before .before .before .before .before .before .before .before .before .before .level-at2 .ensures)
+    (c .before .before .before .before .before .before .before .before .before .before .level-at3 .ensures) (c .before .before
+    .before .before .before .before .before .before .before .levels-of .ensures) (c .before .before .before .before .before
+    .before .before .before .earlier .ensures) (c .before .before .before .before .before .if2 .left) (c .before .before
+    .before .add-span .ensures)
     (c .before .before .place-after .ensures) (c .before .place-after2 .ensures) (c .place-after3 .ensures)
 
 returns-2 : tie.Need-returns-2 Inv-loop μ-loop
-returns-2 c = along-ends _ _ _ _ _ _ _ (c .before .before .before .before .before .before .before .before .before .before .before .pre .1) (c .before .before .before .before .before .before .before .before .before .before .before .pre .0) (c .before .before .before .loop .inv) (c .if1 .left) refl refl
+returns-2 c = along-ends _ _ _ _ _ _ _ (c .before .before .before .before .before .before .before .before .before .before .before
+    .pre .1) (c .before .before .before .before .before .before .before .before .before .before .before .pre .0) (c .before
+    .before .before .loop .inv) (c .if1 .left) refl refl
 
 pub sweep-chosen-spec : {M : Type 1} → statement M
 sweep-chosen-spec =

@@ -23,18 +23,27 @@ choose-lane-requires c κs = (omega arith, c .before .before .before .before .lo
 sweep-choices-requires : tie.Need-sweep-choices-requires Inv-loop μ-loop
 sweep-choices-requires c κs = (
   c .before .before .before .before .before .before .before .if1 .taken,
-  chosen-ready _ _ _ (c .before .before .before .before .if2 .taken) (c .before .before .before .before .before .choose-lane .ensures .0) (c .before .before .choose-lane2 .ensures .0)
+  chosen-ready _ _ _ (c .before .before .before .before .if2 .taken) (c .before .before .before .before .before .choose-lane
+      .ensures .0) (c .before .before .choose-lane2 .ensures .0)
       (c .choose-lane3 .ensures .0),
 )
 
 loop-less : tie.Need-loop-less Inv-loop μ-loop
-loop-less c = omega (arith, c .before .before .before .sweep-choices .ensures .later, c .before .before .before .before .before .before .before .before .before .before .before .if1 .taken)
+loop-less c = omega (
+  arith,
+  c .before .before .before .sweep-choices .ensures .later,
+  c .before .before .before .before .before
+      .before .before .before .before .before .before .if1 .taken,
+)
 
 loop-again : tie.Need-loop-again Inv-loop μ-loop
 loop-again c =
     let later = c .before .before .before .sweep-choices .ensures .later in (
-      chosen-judged _ _ _ (c .before .before .before .before .before .before .before .before .before .before .before .before .before .before .loop .inv .0) (c .before .before .before .before .before .before .before .before .before .choose-lane .ensures .0) (c .before .before .before .before .before .before .choose-lane2 .ensures .0)
-          (c .before .before .before .before .choose-lane3 .ensures .0) (c .before .before .before .sweep-choices .ensures) (c .before .both-found .ensures),
+      chosen-judged _ _ _ (c .before .before .before .before .before .before .before .before .before .before .before .before
+          .before .before .loop .inv .0) (c .before .before .before .before .before .before .before .before .before .choose-lane
+          .ensures .0) (c .before .before .before .before .before .before .choose-lane2 .ensures .0)
+          (c .before .before .before .before .choose-lane3 .ensures .0) (c .before .before .before .sweep-choices .ensures) (c
+          .before .both-found .ensures),
       placed-later _ _ _ (c .before .before .before .before .choose-lane3 .ensures .1) (omega arith),
     )
 
@@ -48,8 +57,10 @@ loop-again-2 : tie.Need-loop-again-2 Inv-loop μ-loop
 loop-again-2 c =
     let up = sooner (c .earlier .ensures) .above _ (c .before .before .choose-lane .ensures .0 .stands .later)
     (c .before .before .before .before .if1 .taken) in (
-      judged-quiet _ _ _ _ (c .before .before .before .before .before .before .before .loop .inv .0) (c .before .before .before .before .if1 .taken)
-          (chosen-quiet _ _ _ (c .before .before .choose-lane .ensures .0) (c .before .if2 .left)) refl (sooner (c .earlier .ensures)),
+      judged-quiet _ _ _ _ (c .before .before .before .before .before .before .before .loop .inv .0) (c .before .before .before
+          .before .if1 .taken)
+          (chosen-quiet _ _ _ (c .before .before .choose-lane .ensures .0) (c .before .if2 .left)) refl (sooner (c .earlier
+          .ensures)),
       placed-later _ _ _ (c .before .before .choose-lane .ensures .1) (omega (arith, up)),
     )
 
