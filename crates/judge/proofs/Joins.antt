@@ -17,9 +17,7 @@ use Rattle.rules.specs.declared.Powers.{Powers}
 use Rattle.rules.specs.declared.Record.{Record}
 use Rattle.rules.specs.declared.UnitHead.{UnitHead}
 use Rattle.rules.specs.Codes.{isLevelled}
-use Rattle.rules.specs.Minutes.{FullRecord, recordsAmong, question17}
-use Rattle.levels.specs.declared.SweepResult.{SweepResult}
-use Rattle.levels.specs.Result.{sweepResult}
+use Rattle.rules.specs.Minutes.{FullRecord, recordsAmong, question17, levelsFit, levelsEvery}
 use Rattle.rules.specs.Records.{sameIdentifier}
 use Rattle.rules.specs.Block.{slotAt, used, recordIn}
 use Rattle.rules.specs.Questions.{recordAt, live, rangeOf}
@@ -153,11 +151,11 @@ module _ (h : Head) (unit : UnitHead) (ws : List FullRecord) {t : Bool} (asked :
   unfolding question17
   minutes-skipped n = rw (sym asked ∙ not-true t n)
 
-  pub minutes-swept : {r : PowerRange} {g : SweepResult} → not t ≡ false → r ≡ rangeOf (unit .powers) (h .direction)
-      → g ≡ sweepResult (unit .kind) r ws (h .direction) (h .period .start .0) (h .period .end .0)
-      → g .fits ≡ question17 (unit .kind) (unit .powers) ws h
-  unfolding question17 sweepResult
-  minutes-swept n q p = ap (λ (g : SweepResult). g .fits) p ∙ rw (q, sym asked ∙ not-false t n)
+  pub minutes-swept : {r : PowerRange} {ok : Bool} → not t ≡ false → r ≡ rangeOf (unit .powers) (h .direction)
+      → ok ≡ levelsEvery (levelsFit (unit .kind) r) ws (h .direction) (h .period .start .0) (h .period .end .0)
+      → ok ≡ question17 (unit .kind) (unit .powers) ws h
+  unfolding question17
+  minutes-swept n q p = p ∙ rw (q, sym asked ∙ not-false t n)
 
 -- the slots that are marked are those that pass the test
 pub records-same : (b : List ℕ) (p q : ℕ → Bool) (i n : ℕ) → ((j : ℕ) → i ≤ j → j < i + n → p j ≡ q j)

@@ -253,7 +253,7 @@ fn minutes_fit(b: &[u8], report: &[u8], h: Head, unit: UnitHead, others: [bool; 
         with_report: true,
     };
     let range = records::range_of(unit.powers, h.direction);
-    levels::sweep(b, report, swept, h.direction, h.period, unit.kind, range).fits
+    levels::fits(b, report, swept, h.direction, h.period, unit.kind, range)
 }
 
 // Questions 15 to 19, by their answers.

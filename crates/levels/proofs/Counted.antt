@@ -25,22 +25,23 @@ use Rattle.block.specs.declared.Pair.{Pair}
 use Rattle.levels.specs.declared.Lane.{Lane}
 use Rattle.levels.specs.declared.Swept.{Swept}
 use Rattle.levels.specs.Pairs.{pairOf, levelAmongPairs}
-use Rattle.levels.specs.Lanes.{noLane, laneOf, reportLane, slotLane, laneAt, laneBytes, lanePair, laneLevel, levelAmongLanes}
+use Rattle.levels.specs.Lanes.{noLane, laneOf, reportLane, slotLane, laneAt, laneLevel, levelAmongLanes}
 use Rattle.levels.specs.Counted.{sweptRecords}
 
 -- the pairs of a report's parts, and of a slot
-report-pairs : (s : List ℕ) (i n m : ℕ) → levelIn (series (partAt s) i n) m ≡ levelAmongPairs (series (pairOf s true) i n) m
+report-pairs : (s z : List ℕ) (i n m : ℕ)
+    → levelIn (series (partAt s) i n) m ≡ levelAmongPairs (series (pairOf s z true) i n) m
 unfolding levelIn levelAmongPairs series pairOf pick
-report-pairs s i zero m = refl
-report-pairs s i (suc n) m = rw (report-pairs s (i + 1) n m)
+report-pairs s z i zero m = refl
+report-pairs s z i (suc n) m = rw (report-pairs s z (i + 1) n m)
 
-slot-pairs : (z : List ℕ) (i n m : ℕ) (start : Minute)
-    → levelIn (pairsFrom z (88 + 8 * i) n start) m ≡ levelAmongPairs (series (pairOf z false) i n) m
+slot-pairs : (s z : List ℕ) (i n m : ℕ) (start : Minute)
+    → levelIn (pairsFrom z (88 + 8 * i) n start) m ≡ levelAmongPairs (series (pairOf s z false) i n) m
 unfolding levelIn levelAmongPairs series pairOf pairsFrom pick
-slot-pairs z i zero m start = refl
-slot-pairs z i (suc n) m start =
+slot-pairs s z i zero m start = refl
+slot-pairs s z i (suc n) m start =
     let a : 88 + 8 * i + 8 ≡ 88 + 8 * (i + 1) = omega arith in
-    rw (a, slot-pairs z (i + 1) n m)
+    rw (a, slot-pairs s z (i + 1) n m)
 
 -- the lane of a record that counts, where its direction is asked
 lane-level : (t : Bool) (r : Record) (ps : List Part) (f : ℕ → Pair) (k type direction m : ℕ) → eqb (r .direction) direction ≡ t
@@ -87,22 +88,19 @@ module _ (b s : List ℕ) (swept : Swept) (type direction m : ℕ) where
   unfolding laneAt
   lane-of-slot i = ap lane (add-one i)
 
-  bytes-of-slot : (i : ℕ) → laneBytes b s (i + 1) ≡ slotAt b i
-  unfolding laneBytes pick
-  bytes-of-slot i =
-      let back : i + 1 - 1 ≡ i = omega arith in
-      rw (ne-eqb (i + 1) 0 (λ e. omega arith), back)
+  slot-before : (i : ℕ) → i + 1 - 1 ≡ i
+  slot-before i = omega arith
 
   slots-lanes : (i n : ℕ) → levelAmongLanes b s lane type (i + 1) n m ≡ levelAmong (recordsAmong b counts i n) type direction m
   unfolding levelAmongLanes levelAmong recordsAmong slotLane pick
   slots-lanes i zero = refl
   slots-lanes i (suc n) =
-      rw (lane-of-slot i, bytes-of-slot i, ne-eqb (i + 1) 0 (λ e. omega arith), slots-lanes (i + 1) n) (by-case (counts i))
+      rw (lane-of-slot i, slot-before i, ne-eqb (i + 1) 0 (λ e. omega arith), slots-lanes (i + 1) n) (by-case (counts i))
     where
       rest : List FullRecord
       rest = recordsAmong b counts (i + 1) n
 
-      by-case : (t : Bool) → orElse (laneLevel (slotLane b i t direction) (pairOf (slotAt b i) false) type m)
+      by-case : (t : Bool) → orElse (laneLevel (slotLane b i t direction) (pairOf s (slotAt b i) false) type m)
           (levelAmong rest type direction m) ≡ levelAmong (pick t (record {
             fields = recordAt b i;
             parts = partsIn
@@ -112,24 +110,24 @@ module _ (b s : List ℕ) (swept : Swept) (type direction m : ℕ) where
           ap (λ (v : Level). orElse v (levelAmong rest type direction m))
           (lane-level (eqb (recordAt b i .direction) direction) (recordAt b i) (partsIn (slotAt b i)) _ (storedCount
           (slotAt b i)) type direction m refl
-          (slot-pairs (slotAt b i) 0 (storedCount (slotAt b i)) m (recordAt b i .period .start)))
+          (slot-pairs s (slotAt b i) 0 (storedCount (slotAt b i)) m (recordAt b i .period .start)))
       by-case false = ap (λ (v : Level). orElse v (levelAmong rest type direction m)) (lane-silent (recordAt b i) _ (storedCount
           (slotAt b i)) type m)
 
   pub lanes-level : levelAmongLanes b s lane type 0 9 m ≡ levelAmong (sweptRecords b s (swept .counted)
       (swept .«with_report»)) type direction m
-  unfolding levelAmongLanes levelAmong sweptRecords laneAt reportLane laneBytes pick
+  unfolding levelAmongLanes levelAmong sweptRecords laneAt reportLane pick
   lanes-level = rw (slots-lanes 0 8) (by-case (swept .«with_report»)) where
     slots : List FullRecord
     slots = recordsAmong b counts 0 8
 
-    by-case : (t : Bool) → orElse (laneLevel (reportLane s t direction) (pairOf s true) type m)
+    by-case : (t : Bool) → orElse (laneLevel (reportLane s t direction) (pairOf s (slotAt b 0) true) type m)
         (levelAmong slots type direction m) ≡ levelAmong (pick t (record
         { fields = recordOf s; parts = partsOf s } ∷ slots) slots) type direction m
     by-case true =
         ap (λ (v : Level). orElse v (levelAmong slots type direction m))
         (lane-level (eqb (recordOf s .direction) direction) (recordOf s) (partsOf s) _ (partCount s) type direction m refl
-        (report-pairs s 0 (partCount s) m))
+        (report-pairs s (slotAt b 0) 0 (partCount s) m))
     by-case false = ap (λ (v : Level). orElse v (levelAmong slots type direction m)) (lane-silent (recordOf s) _
         (partCount s) type m)
 

@@ -88,6 +88,31 @@ every-turn start {m} {n} {test} {v} l h =
     let k : start + (m - start) ≡ m = omega arith in
     rw (e, run-cut test start (m - start) (suc (n - m - 1)), k, run-same test v m (n - m - 1) (λ j p q. h .same j p (omega arith)))
 
+-- two stretches of minutes, of which the second is tested by a test that is the same there
+all-same : (p q : ℕ → Bool) (i n : ℕ) → ((j : ℕ) → i ≤ j → j < i + n → p j ≡ q j)
+    → all p (series (λ k. k) i n) ≡ all q (series (λ k. k) i n)
+unfolding all series
+all-same p q i zero h = refl
+all-same p q i (suc n) h =
+    rw (h i (omega arith) (omega arith), all-same p q (i + 1) n (λ j a b. h j (omega arith) (omega arith)))
+
+pub every-join : (start m n : ℕ) (p q : ℕ → Bool) → start ≤ m → m ≤ n → ((k : ℕ) → m ≤ k → k < n → p k ≡ q k)
+    → everyMinute start n p ≡ (everyMinute start m p && everyMinute m n q)
+every-join start m n p q a b h =
+    let e : n - start ≡ (m - start) + (n - m) = omega arith in
+    let k : start + (m - start) ≡ m = omega arith in
+    rw (e, run-cut p start (m - start) (n - m), k, all-same p q m (n - m) (λ j x y. h j x (omega arith)))
+
+not-both : (a b : Bool) → not (a && b) ≡ (not a || not b)
+not-both true b = refl
+not-both false b = refl
+
+pub some-join : (start m n : ℕ) (p q : ℕ → Bool) → start ≤ m → m ≤ n → ((k : ℕ) → m ≤ k → k < n → p k ≡ q k)
+    → someMinute start n p ≡ (someMinute start m p || someMinute m n q)
+some-join start m n p q a b h =
+    ap not (every-join start m n (λ k. not (p k)) (λ k. not (q k)) a b (λ k x y. ap not (h k x y)))
+    ∙ not-both (everyMinute start m (λ k. not (p k))) (everyMinute m n (λ k. not (q k)))
+
 not-and : (a b : Bool) → not (a && not b) ≡ (not a || b)
 not-and true true = refl
 not-and true false = refl

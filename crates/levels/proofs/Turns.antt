@@ -10,22 +10,26 @@ use Rattle.rules.specs.declared.Levels.{Levels}
 use Rattle.rules.specs.declared.PowerRange.{PowerRange}
 use Rattle.rules.specs.Minutes.{FullRecord, everyMinute, someMinute, levelsAt, levelsFit, aboveMax, belowMin, levelsEvery, levelsSome}
 use Rattle.levels.specs.declared.SweepResult.{SweepResult}
-use Rattle.levels.specs.Result.{withSpan, foundIn, sweepResult}
+use Rattle.levels.specs.Result.{withSpan, bothFound, foundIn, sweepResult}
 use Rattle.levels.specs.Stays.{Holds}
-use Rattle.levels.proofs.Spans.{Sooner, holds-of, holds-less, every-none, every-turn, some-none, some-turn}
+use Rattle.levels.proofs.Spans.{Sooner, holds-of, holds-less, every-none, every-turn, every-join, some-none, some-turn, some-join}
+
+pub found-same : (kind : ℕ) (range : PowerRange) (start end : ℕ) {f h : ℕ → Levels} → ((k : ℕ) → f k ≡ h k)
+    → foundIn f kind range start end ≡ foundIn h kind range start end
+found-same kind range start end same = λ i. foundIn (λ k. same k i) kind range start end
 
 -- levels that are those of records
 pub found-records : (kind : ℕ) (range : PowerRange) (ws : List FullRecord) (direction start end : ℕ) {f : ℕ → Levels} → ((m : ℕ)
     → f m ≡ levelsAt ws direction m) → foundIn f kind range start end ≡ sweepResult kind range ws direction start end
 unfolding foundIn sweepResult levelsEvery levelsSome
-found-records kind range ws direction start end h = λ i. foundIn (λ m. h m i) kind range start end
+found-records kind range ws direction start end h = found-same kind range start end h
 
 module _ (f : ℕ → Levels) (kind : ℕ) (range : PowerRange) (start : ℕ) where
-  found-none : record { fits = true; above = false; below = false } ≡ foundIn f kind range start start
+  pub found-none : record { fits = true; above = false; below = false } ≡ foundIn f kind range start start
   unfolding foundIn
   found-none = rw (every-none, some-none, some-none)
 
-  found-turn : {m n : ℕ} {l : Levels} → start ≤ m → Holds f m l n
+  pub found-turn : {m n : ℕ} {l : Levels} → start ≤ m → Holds f m l n
       → foundIn f kind range start n ≡ withSpan (foundIn f kind range start m) kind range l
   unfolding foundIn
   found-turn {m} {n} {l} o h =
@@ -33,6 +37,19 @@ module _ (f : ℕ → Levels) (kind : ℕ) (range : PowerRange) (start : ℕ) wh
         fits = every-turn start o (holds-of h (levelsFit kind range)) i;
         above = some-turn start o (holds-of h (aboveMax kind range)) i;
         below = some-turn start o (holds-of h (belowMin kind range)) i;
+      }
+
+  found-join : {h : ℕ → Levels} {m n : ℕ} → start ≤ m → m ≤ n → ((k : ℕ) → m ≤ k → k < n → f k ≡ h k)
+      → foundIn f kind range start n ≡ bothFound (foundIn f kind range start m) (foundIn h kind range m n)
+  unfolding foundIn
+  found-join {h} {m} {n} a b same =
+      let fit = levelsFit kind range in
+      let high = aboveMax kind range in
+      let low = belowMin kind range in
+      λ i. record {
+        fits = every-join start m n (λ k. fit (f k)) (λ k. fit (h k)) a b (λ k x y. ap fit (same k x y)) i;
+        above = some-join start m n (λ k. high (f k)) (λ k. high (h k)) a b (λ k x y. ap high (same k x y)) i;
+        below = some-join start m n (λ k. low (f k)) (λ k. low (h k)) a b (λ k x y. ap low (same k x y)) i;
       }
 
   -- minutes without forced work: nothing is found in them
@@ -72,24 +89,20 @@ module _ (f : ℕ → Levels) (kind : ℕ) (range : PowerRange) (start : ℕ) wh
     pub to : (m ≤ end) ⊎ (m ≤ start)
     pub found : g ≡ foundIn f kind range start m
 
-  pub judged-none : {end m : ℕ} → m ≡ start → Judged end m (record { fits = true; above = false; below = false })
-  judged-none {end} {m} e = record {
-    from = omega arith;
-    to = inr (omega arith);
-    found = found-none ∙ ap
-        (foundIn f kind range start) (sym e);
-  }
+  pub judged-none : {end m : ℕ} {g : SweepResult} → g ≡ record { fits = true; above = false; below = false } → m ≡ start
+      → Judged end m g
+  judged-none {end} {m} e q =
+      record { from = omega arith; to = inr (omega arith); found = e ∙ found-none ∙ ap (foundIn f kind range start) (sym q) }
 
-  pub judged-turn : {end m n until : ℕ} {g k : SweepResult} {l : Levels} → Judged end m g → m < end → Holds f m l until
-      → k ≡ withSpan g kind range l → Sooner until end n → Judged end n k
-  judged-turn {end} {m} {n} {until} {g} {k} {l} w o h e z =
-      let up = z .above m (h .later) o in
+  pub judged-join : {h : ℕ → Levels} {end m n : ℕ} {g next more : SweepResult} → Judged end m g → m < n → n ≤ end → ((k : ℕ) → m ≤ k
+      → k < n → f k ≡ h k) → more ≡ foundIn h kind range m n → next ≡ bothFound g more → Judged end n next
+  judged-join {h} {end} {m} {n} {g} {next} {more} w l o same e q =
       let before = w .from in
       record {
         from = omega arith;
-        to = inl (z .two);
-        found = e ∙ ap (λ (g : SweepResult). withSpan g kind range l) (w .found) ∙ sym (found-turn (w .from) (holds-less h up
-            (z .one)));
+        to = inl o;
+        found = q ∙ ap (bothFound g) e ∙ ap (λ (g : SweepResult). bothFound g (foundIn h kind range m n)) (w .found) ∙ sym
+            (found-join before (omega arith) same);
       }
 
   pub judged-quiet : {end m n until : ℕ} {g : SweepResult} {v : Level} → Judged end m g → m < end

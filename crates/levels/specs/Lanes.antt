@@ -2,10 +2,11 @@
 use Prim.Native.Nat.{ℕ, zero, suc, _+_, _-_, _≤_, _<_}
 use mathlib.Core.Path.{_≡_}
 use mathlib.Core.List.{List}
-use mathlib.Core.Bool.{Bool, false, _&&_}
+use mathlib.Core.Bool.{Bool, true, false, _&&_}
 use lib.Dec.{leb, ltb, eqb}
 use lib.ListN.{length, getD}
 use Rattle.fields.specs.Lists.{pick, series}
+use Rattle.quantities.specs.declared.Minute.{Minute}
 use Rattle.quantities.specs.Quantities.{earlierOf}
 use Rattle.report.specs.Report.{partCount}
 use Rattle.rules.specs.declared.Level.{Level}
@@ -17,12 +18,12 @@ use Rattle.rules.specs.Questions.{recordOf, recordAt}
 use Rattle.rules.specs.Minutes.{noLevel, orElse}
 use Rattle.block.specs.declared.Pair.{Pair}
 use Rattle.levels.specs.declared.Lane.{Lane}
-use Rattle.levels.specs.declared.Lanes.{Lanes}
+use Rattle.levels.specs.declared.Choice.{Choice}
+use Rattle.levels.specs.declared.Choices.{Choices}
 use Rattle.levels.specs.declared.LaneSpan.{LaneSpan}
 use Rattle.levels.specs.declared.LevelSpan.{LevelSpan}
 use Rattle.levels.specs.declared.LevelsSpan.{LevelsSpan}
 use Rattle.levels.specs.declared.Swept.{Swept}
-use Rattle.levels.specs.declared.Track.{Track}
 use Rattle.levels.specs.Pairs.{pairOf, levelAmongPairs, Passed}
 use Rattle.levels.specs.Stays.{Stays}
 
@@ -44,12 +45,9 @@ unfoldable pub laneAt : List ℕ → List ℕ → Swept → ℕ → ℕ → Lane
 laneAt b s swept direction zero = reportLane s (swept .«with_report») direction
 laneAt b s swept direction (suc i) = slotLane b i (getD (swept .counted) i false) direction
 
--- the bytes that have a lane's pairs, and its pairs
-unfoldable pub laneBytes : List ℕ → List ℕ → ℕ → List ℕ
-laneBytes b s i = pick (eqb i 0) s (slotAt b (i - 1))
-
+-- a lane's pairs, which lie in the report or in the slot before it
 abbrev pub lanePair : List ℕ → List ℕ → ℕ → ℕ → Pair
-lanePair b s i = pairOf (laneBytes b s i) (eqb i 0)
+lanePair b s i = pairOf s (slotAt b (i - 1)) (eqb i 0)
 
 -- a lane's level in minute m, where it is of this type and holds the minute
 unfoldable pub laneLevel : Lane → (ℕ → Pair) → ℕ → ℕ → Level
@@ -72,49 +70,20 @@ laneLevels b s lane m = record {
   negative = levelAmongLanes b s lane negativeDerating 0 9 m;
 }
 
--- the lanes as code keeps them, field by field
-unfoldable pub lanesOf : (ℕ → Lane) → Lanes
-lanesOf lane = record {
-  types = series (λ i. lane i .«record_type») 0 9;
-  starts = series (λ i. lane i .period .start .0) 0 9;
-  ends = series (λ i. lane i .period .end .0) 0 9;
-  counts = series (λ i. lane i .count) 0 9;
-}
-
-abbrev pub laneOfFields : List ℕ → List ℕ → List ℕ → List ℕ → ℕ → Lane
-laneOfFields types starts ends counts i = record {
-  «record_type» = getD types i 0;
-  period = record { start = record { 0 = getD starts i 0 }; end = record { 0 = getD ends i 0 } };
-  count = getD counts i 0;
-}
-
-abbrev pub laneIn : Lanes → ℕ → Lane
-laneIn lanes = laneOfFields (lanes .types) (lanes .starts) (lanes .ends) (lanes .counts)
+-- lane i of those that code keeps
+abbrev pub laneIn : List Lane → ℕ → Lane
+laneIn lanes i = getD lanes i noLane
 
 -- what a step in a lane of n pairs promises of its level and its place
 pub record Stepped (f : ℕ → Pair) (n m : ℕ) (level : ℕ → Level) (r : LaneSpan) : Type 0 where
   pub stays : Stays level m (r .span)
   pub passed : Passed f n (r .place) m
+  pub ends : r .span .level .there ≡ true → m < f (r .place) .end .0
 
 -- in every lane the pairs before its place have ended
-pub record Placed (b s : List ℕ) (lane : ℕ → Lane) (places : List ℕ) (m : ℕ) : Type 0 where
+pub record Placed (b s : List ℕ) (lanes : List Lane) (places : List ℕ) (m : ℕ) : Type 0 where
   pub size : length places ≡ 9
-  pub at : (i : ℕ) → i < 9 → Passed (lanePair b s i) (lane i .count) (getD places i 0) m
-
--- the lanes of a type before `from` have ended
-pub record Ended (types ends : List ℕ) (type from m : ℕ) : Type 0 where
-  pub most : from ≤ 9
-  pub before : (i : ℕ) → i < from → getD types i 0 ≡ type → getD ends i 0 ≤ m
-
--- what is known of a type's level: it holds as long as it says
-pub record Known (b s : List ℕ) (types starts ends counts : List ℕ) (type m : ℕ) (track : Track) : Type 0 where
-  pub same : (k : ℕ) → m ≤ k → k < track .span .until .0
-      → levelAmongLanes b s (laneOfFields types starts ends counts) type 0 9 k ≡ track .span .level
-  pub ended : Ended types ends type (track .from) m
-
-pub record Tracked (b s : List ℕ) (types starts ends counts : List ℕ) (type m : ℕ) (track : Track) : Type 0 where
-  pub stays : Stays (levelAmongLanes b s (laneOfFields types starts ends counts) type 0 9) m (track .span)
-  pub ended : Ended types ends type (track .from) m
+  pub at : (i : ℕ) → i < 9 → Passed (lanePair b s i) (laneIn lanes i .count) (getD places i 0) m
 
 -- the three levels, up to the first change of one
 abbrev pub levelsOf : LevelSpan → LevelSpan → LevelSpan → LevelsSpan
@@ -122,3 +91,91 @@ levelsOf forced positive negative = record {
   levels = record { forced = forced .level; positive = positive .level; negative = negative .level };
   until = earlierOf (earlierOf (forced .until) (positive .until)) (negative .until);
 }
+
+-- the pairs of a choice's lane, in the report s or the slot z, and its level
+abbrev pub chosenPair : List ℕ → List ℕ → Choice → ℕ → Pair
+chosenPair s z c = pairOf s z (eqb (c .lane) 0)
+
+unfoldable pub chosenLevel : List ℕ → List ℕ → Choice → ℕ → Level
+chosenLevel s z c m = pick (c .there) (levelAmongPairs (series (chosenPair s z c) 0 (c .count)) m) noLevel
+
+abbrev pub chosenLevels : List ℕ → List ℕ → List ℕ → List ℕ → Choices → ℕ → Levels
+chosenLevels s f p n cs m = record {
+  forced = chosenLevel s f (cs .forced) m;
+  positive = chosenLevel s p (cs .positive) m;
+  negative = chosenLevel s n (cs .negative) m;
+}
+
+-- a choice's pairs from minute m on: one holds each minute before `until`, those before the place have ended, the place's not
+pub record Ahead (f : ℕ → Pair) (n place m until : ℕ) : Type 0 where
+  pub there : (k : ℕ) → m ≤ k → k < until → levelAmongPairs (series f 0 n) k .there ≡ true
+  pub passed : Passed f n place m
+  pub ends : m < f place .end .0
+
+abbrev pub AheadIn : List ℕ → List ℕ → Choice → ℕ → ℕ → Type 0
+AheadIn s z c m until = Ahead (chosenPair s z c) (c .count) (c .place) m until
+
+pub record AheadAll (s f p n : List ℕ) (cs : Choices) (m until : ℕ) : Type 0 where
+  pub forced : AheadIn s f (cs .forced) m until
+  pub positive : AheadIn s p (cs .positive) m until
+  pub negative : AheadIn s n (cs .negative) m until
+
+-- up to `until` a lane has a level: that of its pairs
+pub record Held (f : ℕ → Pair) (lane : Lane) (m until : ℕ) : Type 0 where
+  pub later : m < until
+  pub there : (k : ℕ) → m ≤ k → k < until → levelAmongPairs (series f 0 (lane .count)) k .there ≡ true
+  pub same : (k : ℕ) → m ≤ k → k < until
+      → laneLevel lane f (lane .«record_type») k ≡ levelAmongPairs (series f 0 (lane .count)) k
+
+-- what a choice at minute m promises: a type's level up to `until` is that of the lane chosen
+abbrev pub choiceLevel : List ℕ → List ℕ → Choice → ℕ → Level
+choiceLevel b s c = chosenLevel s (slotAt b (c .lane - 1)) c
+
+pub record Standing (b s : List ℕ) (m : ℕ) (c : Choice) : Type 0 where
+  pub later : m < c .until .0
+  pub ahead : c .there ≡ true → AheadIn s (slotAt b (c .lane - 1)) c m (c .until .0)
+
+pub record Chosen (b s : List ℕ) (lanes : List Lane) (type m : ℕ) (c : Choice) : Type 0 where
+  pub stands : Standing b s m c
+  pub same : (k : ℕ) → m ≤ k → k < c .until .0 → levelAmongLanes b s (laneIn lanes) type 0 9 k ≡ choiceLevel b s c k
+
+-- three choices, of which the forced work's has a lane
+pub record Ready (b s : List ℕ) (cs : Choices) (m : ℕ) : Type 0 where
+  pub chosen : cs .forced .there ≡ true
+  pub forced : Standing b s m (cs .forced)
+  pub positive : Standing b s m (cs .positive)
+  pub negative : Standing b s m (cs .negative)
+
+abbrev pub choiceLevels : List ℕ → List ℕ → Choices → ℕ → Levels
+choiceLevels b s cs m = record {
+  forced = choiceLevel b s (cs .forced) m;
+  positive = choiceLevel b s (cs .positive) m;
+  negative = choiceLevel b s (cs .negative) m;
+}
+
+-- up to which minute they all stay
+abbrev pub soonest : Choices → Minute → ℕ
+soonest cs end =
+    earlierOf (earlierOf (earlierOf (cs .forced .until) (cs .positive .until)) (cs .negative .until)) end .0
+
+-- a choice; one of no lane reads the pairs of another
+unfoldable pub besideOf : Choice → Choice → Choice
+besideOf c forced =
+    pick (c .there) c (record {
+      there = false;
+      lane = forced .lane;
+      count = forced .count;
+      place = forced .place;
+      until = c .until;
+    })
+
+-- the level of a choice at a place, up to the end of the pair there
+unfoldable pub spanAt : List ℕ → List ℕ → Choice → ℕ → LevelSpan
+spanAt s z c place = record {
+  level = pick (c .there) (record { there = true; power = chosenPair s z c place .power }) noLevel;
+  until = chosenPair s z c place .end;
+}
+
+-- one more where the pair there has ended
+unfoldable pub placeAfter : ℕ → ℕ → ℕ → ℕ
+placeAfter place end m = pick (leb end m) (place + 1) place

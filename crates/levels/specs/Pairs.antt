@@ -5,17 +5,16 @@ use mathlib.Core.List.{List, [], _∷_}
 use mathlib.Core.Bool.{Bool, true}
 use lib.Dec.{ltb}
 use Rattle.fields.specs.Lists.{pick, series}
-use Rattle.quantities.specs.Quantities.{sizeOf}
-use Rattle.report.specs.Report.{partAt}
+use Rattle.report.specs.Report.{partLevel}
 use Rattle.rules.specs.declared.Level.{Level}
 use Rattle.rules.specs.Minutes.{noLevel}
 use Rattle.block.specs.declared.Pair.{Pair}
 use Rattle.block.specs.Slot.{pairAt}
 
--- part j of a report, or pair j of a slot
-unfoldable pub pairOf : List ℕ → Bool → ℕ → Pair
-pairOf s in-report j =
-    pick in-report (record { end = partAt s j .period .end; power = sizeOf (partAt s j .power) }) (pairAt s j)
+-- part j of a report s, or pair j of a slot z
+unfoldable pub pairOf : List ℕ → List ℕ → Bool → ℕ → Pair
+pairOf s z in-report j =
+    pick in-report (record { end = partLevel s j .end; power = partLevel s j .power }) (pairAt z j)
 
 -- the power of the first pair that ends after the minute
 unfoldable pub levelAmongPairs : List Pair → ℕ → Level

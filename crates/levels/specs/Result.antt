@@ -1,10 +1,12 @@
 -- What one sweep finds: question 17 and warnings 2 and 4, in every minute of a period.
-use Prim.Native.Nat.{ℕ}
+use Prim.Native.Nat.{ℕ, _<_, _≤_}
+use mathlib.Core.Path.{_≡_}
 use mathlib.Core.List.{List}
 use mathlib.Core.Bool.{Bool, _&&_, _||_}
 use Rattle.rules.specs.declared.Levels.{Levels}
 use Rattle.rules.specs.declared.PowerRange.{PowerRange}
 use Rattle.rules.specs.Minutes.{FullRecord, everyMinute, someMinute, levelsFit, aboveMax, belowMin, levelsEvery, levelsSome}
+use Rattle.levels.specs.declared.Stretch.{Stretch}
 use Rattle.levels.specs.declared.SweepResult.{SweepResult}
 
 abbrev pub withSpan : SweepResult → ℕ → PowerRange → Levels → SweepResult
@@ -21,6 +23,16 @@ foundIn f kind range start end = record {
   above = someMinute start end (λ m. aboveMax kind range (f m));
   below = someMinute start end (λ m. belowMin kind range (f m));
 }
+
+-- what two stretches of minutes hold together
+abbrev pub bothFound : SweepResult → SweepResult → SweepResult
+bothFound g h = record { fits = g .fits && h .fits; above = g .above || h .above; below = g .below || h .below }
+
+-- a stretch of minutes from `start` on, not beyond `end`, was judged
+pub record Ran (f : ℕ → Levels) (kind : ℕ) (range : PowerRange) (start end : ℕ) (r : Stretch) : Type 0 where
+  pub later : start < r .until .0
+  pub most : r .until .0 ≤ end
+  pub found : r .found ≡ foundIn f kind range start (r .until .0)
 
 -- of records of one direction
 unfoldable pub sweepResult : ℕ → PowerRange → List FullRecord → ℕ → ℕ → ℕ → SweepResult

@@ -14,15 +14,16 @@ use rules::Levels;
 use rules::PowerRange;
 use rules::Record;
 ghost use mathlib.Core.Path.{_≡_};
+ghost use mathlib.Core.Bool.{true, false};
 ghost use Prim.Native.Nat.{_-_, _<_, _≤_};
 ghost use Rattle.fields.specs.Lists.{series};
-ghost use Rattle.quantities.specs.Quantities.{earlierOf};
-ghost use Rattle.rules.specs.Minutes.{noLevel, orElse, fitsW1M1, fitsZ1, levelsFit, aboveMax, belowMin};
+ghost use Rattle.rules.specs.Block.{slotAt};
+ghost use Rattle.rules.specs.Minutes.{noLevel, fitsW1M1, fitsZ1, levelsFit, aboveMax, belowMin, levelsEvery};
 ghost use Rattle.levels.specs.Pairs.{pairOf, levelAmongPairs, Passed};
 ghost use Rattle.levels.specs.Counted.{countedRecords, sweptRecords};
-ghost use Rattle.levels.specs.Lanes.{noLane, laneOf, reportLane, slotLane, laneAt, lanesOf, laneOfFields, laneIn, lanePair, laneLevel, levelAmongLanes, laneLevels, levelsOf, Stepped, Placed, Ended, Known, Tracked};
-ghost use Rattle.levels.specs.Stays.{Stays};
-ghost use Rattle.levels.specs.Result.{withSpan, foundIn, sweepResult};
+ghost use Rattle.levels.specs.Lanes.{noLane, laneOf, reportLane, slotLane, laneAt, laneIn, laneLevel, laneLevels, levelsOf, Stepped, Placed, Held, Chosen, chosenLevels, choiceLevels, spanAt, placeAfter, AheadAll, besideOf, soonest, Ready};
+ghost use Rattle.levels.specs.Result.{withSpan, bothFound, foundIn, Ran, sweepResult};
+ghost use Rattle.levels.specs.Extremes.{WiderBy, CoversType, extremesFit};
 ghost use Rattle.levels.specs.Within.{powerWithin, pairsWithin, slotWithin, forcedWithin, levelWarnings};
 
 // A level, and a later minute up to which it stays.
@@ -50,24 +51,32 @@ pub struct Lane {
     pub count: u16,
 }
 
-// The lanes, field by field.
-pub struct Lanes {
-    pub types: [u8; 9],
-    pub starts: [u32; 9],
-    pub ends: [u32; 9],
-    pub counts: [u16; 9],
-}
-
 // A lane's level, and its place: the pairs before it have ended.
 pub struct LaneSpan {
     pub span: LevelSpan,
     pub place: u16,
 }
 
-// The level of a type, and a lane: those of the type before it have ended.
-pub struct Track {
-    pub span: LevelSpan,
-    pub from: u8,
+// The lane that has a type's level, with its place, or none; so it is up to a minute.
+pub struct Choice {
+    pub there: bool,
+    pub lane: u8,
+    pub count: u16,
+    pub place: u16,
+    pub until: Minute,
+}
+
+pub struct Choices {
+    pub forced: Choice,
+    pub positive: Choice,
+    pub negative: Choice,
+}
+
+// The lowest and the highest power of a type, where it has one.
+pub struct Extremes {
+    pub there: bool,
+    pub lowest: Kilowatt,
+    pub highest: Kilowatt,
 }
 
 // Question 17, and warnings 2 and 4.
@@ -75,6 +84,12 @@ pub struct SweepResult {
     pub fits: bool,
     pub above: bool,
     pub below: bool,
+}
+
+// What was found up to a minute.
+pub struct Stretch {
+    pub found: SweepResult,
+    pub until: Minute,
 }
 
 // Warnings 2 and 4.
@@ -95,26 +110,33 @@ fn none_until(until: Minute) -> LevelSpan
 }
 
 // Part j of a report, or pair j of a slot.
-fn pair_of(s: &[u8], in_report: bool, j: u16) -> Pair
-    ensures { λ r. ⌜ r ≡ pairOf (now (s .entry)) «in_report» j ⌝ }
+fn pair_of(report: &[u8], slot: &[u8], in_report: bool, j: u16) -> Pair
+    ensures { λ r. ⌜ r ≡ pairOf (now (report .entry)) (now (slot .entry)) «in_report» j ⌝ }
 {
     if in_report {
-        let part = report::part_at(s, j);
-        let end = part.period.end;
-        let power = quantities::size_of(part.power);
+        let part = report::part_level(report, j);
+        let end = part.end;
+        let power = part.power;
         return Pair { end, power };
     }
-    block::pair_at(s, j)
+    block::pair_at(slot, j)
 }
 
 // The power of the first pair that ends after the minute; it stays up to that end.
-fn step_among(s: &[u8], in_report: bool, count: u16, place: u16, m: Minute) -> LaneSpan
+fn step_among(
+    report: &[u8],
+    slot: &[u8],
+    in_report: bool,
+    count: u16,
+    place: u16,
+    m: Minute,
+) -> LaneSpan
     requires { ⌜ m .0 < 4294967295 ⌝ }
-    requires { ⌜ Passed (pairOf (now s) «in_report») count place (m .0) ⌝ }
-    ensures { λ r. ⌜ Stepped (pairOf (now (s .entry)) «in_report») count (m .0) (levelAmongPairs (series (pairOf (now (s .entry)) «in_report») 0 count)) r ⌝ }
+    requires { ⌜ Passed (pairOf (now report) (now slot) «in_report») count place (m .0) ⌝ }
+    ensures { λ r. ⌜ Stepped (pairOf (now (report .entry)) (now (slot .entry)) «in_report») count (m .0) (levelAmongPairs (series (pairOf (now (report .entry)) (now (slot .entry)) «in_report») 0 count)) r ⌝ }
 {
     for j in place..count {
-        let pair = pair_of(s, in_report, j);
+        let pair = pair_of(report, slot, in_report, j);
         let until = pair.end;
         if m.0 < until.0 {
             let power = pair.power;
@@ -127,11 +149,18 @@ fn step_among(s: &[u8], in_report: bool, count: u16, place: u16, m: Minute) -> L
     LaneSpan { span, place: count }
 }
 
-// The level of a lane whose pairs lie in `s`.
-fn level_in(s: &[u8], in_report: bool, lane: Lane, place: u16, m: Minute) -> LaneSpan
+// The level of a lane whose pairs lie in the report or in the slot.
+fn level_in(
+    report: &[u8],
+    slot: &[u8],
+    in_report: bool,
+    lane: Lane,
+    place: u16,
+    m: Minute,
+) -> LaneSpan
     requires { ⌜ m .0 < 4294967295 ⌝ }
-    requires { ⌜ Passed (pairOf (now s) «in_report») (lane .count) place (m .0) ⌝ }
-    ensures { λ r. ⌜ Stepped (pairOf (now (s .entry)) «in_report») (lane .count) (m .0) (laneLevel lane (pairOf (now (s .entry)) «in_report») (lane .«record_type»)) r ⌝ }
+    requires { ⌜ Passed (pairOf (now report) (now slot) «in_report») (lane .count) place (m .0) ⌝ }
+    ensures { λ r. ⌜ Stepped (pairOf (now (report .entry)) (now (slot .entry)) «in_report») (lane .count) (m .0) (laneLevel lane (pairOf (now (report .entry)) (now (slot .entry)) «in_report») (lane .«record_type»)) r ⌝ }
 {
     let start = lane.period.start;
     let end = lane.period.end;
@@ -143,7 +172,7 @@ fn level_in(s: &[u8], in_report: bool, lane: Lane, place: u16, m: Minute) -> Lan
         let span = none_until(Minute(4294967295));
         return LaneSpan { span, place };
     }
-    let among = step_among(s, in_report, lane.count, place, m);
+    let among = step_among(report, slot, in_report, lane.count, place, m);
     let level = among.span.level;
     let until = quantities::earlier(among.span.until, end);
     let span = LevelSpan { level, until };
@@ -153,16 +182,14 @@ fn level_in(s: &[u8], in_report: bool, lane: Lane, place: u16, m: Minute) -> Lan
     }
 }
 
-// The level of lane i.
-fn step_lane(b: &[u8], report: &[u8], i: u8, lane: Lane, place: u16, m: Minute) -> LaneSpan
-    requires { ⌜ m .0 < 4294967295 ⌝ }
-    requires { ⌜ Passed (lanePair (now b) (now report) i) (lane .count) place (m .0) ⌝ }
-    ensures { λ r. ⌜ Stepped (lanePair (now (b .entry)) (now (report .entry)) i) (lane .count) (m .0) (laneLevel lane (lanePair (now (b .entry)) (now (report .entry)) i) (lane .«record_type»)) r ⌝ }
+// The slot that has the pairs of lane i, where the report has not.
+fn lane_slot<'a>(b: &'a [u8], i: u8) -> &'a [u8]
+    ensures { λ r. ⌜ now r ≡ slotAt (now (b .entry)) (i - 1) ⌝ }
 {
     if i == 0 {
-        return level_in(report, true, lane, place, m);
+        return block::slot_at(b, 0);
     }
-    level_in(block::slot_at(b, i - 1), false, lane, place, m)
+    block::slot_at(b, i - 1)
 }
 
 fn no_lane() -> Lane
@@ -226,138 +253,112 @@ fn lane_at(b: &[u8], report: &[u8], swept: Swept, direction: u8, i: u8) -> Lane
 }
 
 // The lanes of one direction.
-fn lanes_of(b: &[u8], report: &[u8], swept: Swept, direction: u8) -> Lanes
-    ensures { λ r. ⌜ r ≡ lanesOf (laneAt (now (b .entry)) (now (report .entry)) swept direction) ⌝ }
+fn lanes_of(b: &[u8], report: &[u8], swept: Swept, direction: u8) -> [Lane; 9]
+    ensures { λ r. ⌜ r ≡ series (laneAt (now (b .entry)) (now (report .entry)) swept direction) 0 9 ⌝ }
 {
-    let mut types = [0u8; 9];
-    let mut starts = [0u32; 9];
-    let mut ends = [0u32; 9];
-    let mut counts = [0u16; 9];
+    let none = no_lane();
+    let mut lanes = [none; 9];
     for i in 0..9u8 {
         let lane = lane_at(b, report, swept, direction, i);
-        types[i as usize] = lane.record_type;
-        starts[i as usize] = lane.period.start.0;
-        ends[i as usize] = lane.period.end.0;
-        counts[i as usize] = lane.count;
+        lanes[i as usize] = lane;
     }
-    Lanes {
-        types,
-        starts,
-        ends,
-        counts,
+    lanes
+}
+
+// Up to it a lane whose level was found has one: the last pair's end or, where that has passed, the level's.
+fn held_until(
+    report: &[u8],
+    slot: &[u8],
+    in_report: bool,
+    lane: Lane,
+    step: LaneSpan,
+    m: Minute,
+) -> Minute
+    requires { ⌜ step .span .level .there ≡ true ⌝ }
+    requires { ⌜ Stepped (pairOf (now report) (now slot) «in_report») (lane .count) (m .0) (laneLevel lane (pairOf (now report) (now slot) «in_report») (lane .«record_type»)) step ⌝ }
+    ensures { λ r. ⌜ Held (pairOf (now (report .entry)) (now (slot .entry)) «in_report») lane (m .0) (r .0) ⌝ }
+{
+    let last = pair_of(report, slot, in_report, lane.count - 1).end;
+    if m.0 < last.0 {
+        return quantities::earlier(last, lane.period.end);
+    }
+    step.span.until
+}
+
+// No lane, up to a minute.
+fn no_choice(until: Minute) -> Choice
+    ensures { λ r. ⌜ r ≡ record { there = false; lane = 0; count = 0; place = 0; until = until } ⌝ }
+{
+    Choice {
+        there: false,
+        lane: 0,
+        count: 0,
+        place: 0,
+        until,
     }
 }
 
-fn lane_in(types: &[u8; 9], starts: &[u32; 9], ends: &[u32; 9], counts: &[u16; 9], i: u8) -> Lane
-    requires { ⌜ i < 9 ⌝ }
-    ensures { λ r. ⌜ r ≡ laneOfFields (now (types .entry)) (now (starts .entry)) (now (ends .entry)) (now (counts .entry)) i ⌝ }
-{
-    let start = Minute(starts[i as usize]);
-    let end = Minute(ends[i as usize]);
-    let period = Period { start, end };
-    Lane {
-        record_type: types[i as usize],
-        period,
-        count: counts[i as usize],
-    }
-}
-
-// The first lane from `from` on that is of the type and has not ended, or 9.
-fn pass_ended(types: &[u8; 9], ends: &[u32; 9], record_type: u8, from: u8, m: Minute) -> u8
-    requires { ⌜ Ended (now types) (now ends) «record_type» from (m .0) ⌝ }
-    ensures { λ r. ⌜ Ended (now (types .entry)) (now (ends .entry)) «record_type» r (m .0) ⌝ }
-{
-    let mut i = from;
-    while i < 9 {
-        if (types[i as usize] == record_type) & (m.0 < ends[i as usize]) {
-            return i;
-        }
-        i += 1;
-    }
-    i
-}
-// Nothing is known yet.
-fn untracked() -> Track
-    ensures { λ r. ⌜ (r .span .until .0 ≡ 0) × (r .from ≡ 0) ⌝ }
-{
-    let span = none_until(Minute(0));
-    Track { span, from: 0 }
-}
-
-// The level of a type from lane `from` on: that of the first lane that has one, up to its change or to the start of a lane
-// before it.
-fn level_from(
+// The first lane of a type that has a level; so it is up to its last change or to the start of a lane before it.
+fn choose_lane(
     b: &[u8],
     report: &[u8],
-    types: &[u8; 9],
-    starts: &[u32; 9],
-    ends: &[u32; 9],
-    counts: &[u16; 9],
+    lanes: [Lane; 9],
     places: &mut [u16; 9],
     record_type: u8,
-    from: u8,
     m: Minute,
-) -> LevelSpan
-    requires { ⌜ (m .0 < 4294967295) × (from ≤ 9) ⌝ }
-    requires { ⌜ Placed (now b) (now report) (laneOfFields (now types) (now starts) (now ends) (now counts)) (now places) (m .0) ⌝ }
-    ensures { λ r. ⌜ Stays (levelAmongLanes (now (b .entry)) (now (report .entry)) (laneOfFields (now (types .entry)) (now (starts .entry)) (now (ends .entry)) (now (counts .entry))) «record_type» from (9 - from)) (m .0) r ⌝ }
-    ensures { λ _. ⌜ Placed (now (b .entry)) (now (report .entry)) (laneOfFields (now (types .entry)) (now (starts .entry)) (now (ends .entry)) (now (counts .entry))) (now (places .exit)) (m .0) ⌝ }
+) -> Choice
+    requires { ⌜ m .0 < 4294967295 ⌝ }
+    requires { ⌜ Placed (now b) (now report) lanes (now places) (m .0) ⌝ }
+    ensures { λ r. ⌜ Chosen (now (b .entry)) (now (report .entry)) lanes «record_type» (m .0) r ⌝ }
+    ensures { λ _. ⌜ Placed (now (b .entry)) (now (report .entry)) lanes (now (places .exit)) (m .0) ⌝ }
 {
     let mut until = Minute(4294967295);
-    let mut i = from;
+    let mut i = 0u8;
     while i < 9 {
         let at = i;
         i += 1;
-        if types[at as usize] == record_type {
-            let lane = lane_in(types, starts, ends, counts, at);
-            let step = step_lane(b, report, at, lane, places[at as usize], m);
+        let lane = lanes[at as usize];
+        if lane.record_type == record_type {
+            let slot = lane_slot(b, at);
+            let step = level_in(report, slot, at == 0, lane, places[at as usize], m);
             places[at as usize] = step.place;
-            until = quantities::earlier(until, step.span.until);
             if step.span.level.there {
-                let level = step.span.level;
-                return LevelSpan { level, until };
+                let held = held_until(report, slot, at == 0, lane, step, m);
+                let until = quantities::earlier(until, held);
+                return Choice {
+                    there: true,
+                    lane: at,
+                    count: lane.count,
+                    place: step.place,
+                    until,
+                };
             }
+            until = quantities::earlier(until, step.span.until);
         }
+    }
+    no_choice(until)
+}
+
+// The level of a choice at a place, up to the end of the pair there.
+fn level_at(report: &[u8], slot: &[u8], c: Choice, place: u16) -> LevelSpan
+    ensures { λ r. ⌜ r ≡ spanAt (now (report .entry)) (now (slot .entry)) c place ⌝ }
+{
+    let pair = pair_of(report, slot, c.lane == 0, place);
+    let until = pair.end;
+    if c.there {
+        let power = pair.power;
+        let level = Level { there: true, power };
+        return LevelSpan { level, until };
     }
     none_until(until)
 }
 
-// A type's level in a minute: what is known of it, where that still holds.
-fn follow(
-    b: &[u8],
-    report: &[u8],
-    types: &[u8; 9],
-    starts: &[u32; 9],
-    ends: &[u32; 9],
-    counts: &[u16; 9],
-    places: &mut [u16; 9],
-    record_type: u8,
-    known: Track,
-    m: Minute,
-) -> Track
-    requires { ⌜ m .0 < 4294967295 ⌝ }
-    requires { ⌜ Placed (now b) (now report) (laneOfFields (now types) (now starts) (now ends) (now counts)) (now places) (m .0) ⌝ }
-    requires { ⌜ Known (now b) (now report) (now types) (now starts) (now ends) (now counts) «record_type» (m .0) known ⌝ }
-    ensures { λ r. ⌜ Tracked (now (b .entry)) (now (report .entry)) (now (types .entry)) (now (starts .entry)) (now (ends .entry)) (now (counts .entry)) «record_type» (m .0) r ⌝ }
-    ensures { λ _. ⌜ Placed (now (b .entry)) (now (report .entry)) (laneOfFields (now (types .entry)) (now (starts .entry)) (now (ends .entry)) (now (counts .entry))) (now (places .exit)) (m .0) ⌝ }
+// The place after a minute: one more where its pair has ended.
+fn place_after(place: u16, count: u16, until: Minute, m: Minute) -> u16
+    requires { ⌜ place < count ⌝ }
+    ensures { λ r. ⌜ r ≡ placeAfter place (until .0) (m .0) ⌝ }
 {
-    if m.0 < known.span.until.0 {
-        return known;
-    }
-    let from = pass_ended(types, ends, record_type, known.from, m);
-    let span = level_from(
-        b,
-        report,
-        types,
-        starts,
-        ends,
-        counts,
-        places,
-        record_type,
-        from,
-        m,
-    );
-    Track { span, from }
+    if until.0 <= m.0 { place + 1 } else { place }
 }
 
 // The three levels, up to the first change of one.
@@ -437,77 +438,153 @@ fn add_span(g: SweepResult, kind: u8, range: PowerRange, l: Levels) -> SweepResu
     }
 }
 
-// In every minute of a period, a turn for each change of a level, none for a minute. Without forced work nothing is found,
-// so changes of deratings are passed over.
+fn nothing_found() -> SweepResult
+    ensures { λ r. ⌜ r ≡ record { fits = true; above = false; below = false } ⌝ }
+{
+    SweepResult {
+        fits: true,
+        above: false,
+        below: false,
+    }
+}
+
+// Along the lanes chosen, a turn for each change of a level; it stops where a pair does not end after the minute.
+fn sweep_chosen(
+    report: &[u8],
+    f: &[u8],
+    p: &[u8],
+    n: &[u8],
+    chosen: Choices,
+    period: Period,
+    kind: u8,
+    range: PowerRange,
+) -> Stretch
+    requires { ⌜ period .start .0 < period .end .0 ⌝ }
+    requires { ⌜ AheadAll (now report) (now f) (now p) (now n) chosen (period .start .0) (period .end .0) ⌝ }
+    ensures { λ r. ⌜ Ran (chosenLevels (now (report .entry)) (now (f .entry)) (now (p .entry)) (now (n .entry)) chosen) kind range (period .start .0) (period .end .0) r ⌝ }
+{
+    let end = period.end;
+    let mut i = chosen.forced.place;
+    let mut j = chosen.positive.place;
+    let mut k = chosen.negative.place;
+    let mut m = period.start;
+    let mut found = nothing_found();
+    while m.0 < end.0 {
+        let forced = level_at(report, f, chosen.forced, i);
+        let positive = level_at(report, p, chosen.positive, j);
+        let negative = level_at(report, n, chosen.negative, k);
+        let span = levels_of(forced, positive, negative);
+        let until = quantities::earlier(span.until, end);
+        if until.0 <= m.0 {
+            return Stretch { found, until: m };
+        }
+        let levels = span.levels;
+        found = add_span(found, kind, range, levels);
+        m = until;
+        i = place_after(i, chosen.forced.count, forced.until, m);
+        j = place_after(j, chosen.positive.count, positive.until, m);
+        k = place_after(k, chosen.negative.count, negative.until, m);
+    }
+    Stretch { found, until: m }
+}
+
+// A choice of a lane, or of none beside the forced work: then it reads that one's pairs.
+fn beside(c: Choice, forced: Choice) -> Choice
+    ensures { λ r. ⌜ r ≡ besideOf c forced ⌝ }
+{
+    if c.there {
+        return c;
+    }
+    let until = c.until;
+    Choice {
+        there: false,
+        lane: forced.lane,
+        count: forced.count,
+        place: forced.place,
+        until,
+    }
+}
+
+// From a minute on, as long as the choices stay.
+fn sweep_choices(
+    b: &[u8],
+    report: &[u8],
+    chosen: Choices,
+    period: Period,
+    kind: u8,
+    range: PowerRange,
+) -> Stretch
+    requires { ⌜ period .start .0 < period .end .0 ⌝ }
+    requires { ⌜ Ready (now b) (now report) chosen (period .start .0) ⌝ }
+    ensures { λ r. ⌜ Ran (choiceLevels (now (b .entry)) (now (report .entry)) chosen) kind range (period .start .0) (soonest chosen (period .end)) r ⌝ }
+{
+    let forced = chosen.forced;
+    let positive = beside(chosen.positive, forced);
+    let negative = beside(chosen.negative, forced);
+    let sooner = quantities::earlier(forced.until, positive.until);
+    let start = period.start;
+    let end = quantities::earlier(quantities::earlier(sooner, negative.until), period.end);
+    let held = Choices {
+        forced,
+        positive,
+        negative,
+    };
+    sweep_chosen(
+        report,
+        lane_slot(b, forced.lane),
+        lane_slot(b, positive.lane),
+        lane_slot(b, negative.lane),
+        held,
+        Period { start, end },
+        kind,
+        range,
+    )
+}
+
+// What two stretches of minutes hold together.
+fn both_found(g: SweepResult, h: SweepResult) -> SweepResult
+    ensures { λ r. ⌜ r ≡ bothFound g h ⌝ }
+{
+    SweepResult {
+        fits: g.fits & h.fits,
+        above: g.above | h.above,
+        below: g.below | h.below,
+    }
+}
+
+// In every minute of a period, by the changes of levels. Without forced work nothing is found, so changes of deratings are
+// passed over.
 fn sweep_lanes(
     b: &[u8],
     report: &[u8],
-    lanes: Lanes,
+    lanes: [Lane; 9],
     period: Period,
     kind: u8,
     range: PowerRange,
 ) -> SweepResult
     ensures { λ r. ⌜ r ≡ foundIn (laneLevels (now (b .entry)) (now (report .entry)) (laneIn lanes)) kind range (period .start .0) (period .end .0) ⌝ }
 {
-    let types = lanes.types;
-    let starts = lanes.starts;
-    let ends = lanes.ends;
-    let counts = lanes.counts;
     let end = period.end;
     let mut places = [0u16; 9];
-    let mut forced = untracked();
-    let mut positive = forced;
-    let mut negative = forced;
     let mut m = period.start;
-    let mut g = SweepResult {
-        fits: true,
-        above: false,
-        below: false,
-    };
+    let mut g = nothing_found();
     while m.0 < end.0 {
-        forced = follow(
-            b,
-            report,
-            &types,
-            &starts,
-            &ends,
-            &counts,
-            &mut places,
-            FORCED_WORK,
-            forced,
-            m,
-        );
-        if forced.span.level.there {
-            positive = follow(
-                b,
-                report,
-                &types,
-                &starts,
-                &ends,
-                &counts,
-                &mut places,
-                POSITIVE_DERATING,
+        let forced = choose_lane(b, report, lanes, &mut places, FORCED_WORK, m);
+        if forced.there {
+            let positive = choose_lane(b, report, lanes, &mut places, POSITIVE_DERATING, m);
+            let negative = choose_lane(b, report, lanes, &mut places, NEGATIVE_DERATING, m);
+            let chosen = Choices {
+                forced,
                 positive,
-                m,
-            );
-            negative = follow(
-                b,
-                report,
-                &types,
-                &starts,
-                &ends,
-                &counts,
-                &mut places,
-                NEGATIVE_DERATING,
                 negative,
-                m,
-            );
-            let span = levels_of(forced.span, positive.span, negative.span);
-            let levels = span.levels;
-            g = add_span(g, kind, range, levels);
-            m = quantities::earlier(span.until, end);
+            };
+            let start = m;
+            let stretch = sweep_choices(b, report, chosen, Period { start, end }, kind, range);
+            let more = stretch.found;
+            g = both_found(g, more);
+            m = stretch.until;
         } else {
-            m = quantities::earlier(forced.span.until, end);
+            m = quantities::earlier(forced.until, end);
         }
     }
     g
@@ -533,6 +610,114 @@ pub fn sweep(
         kind,
         range,
     )
+}
+
+fn lower(p: Kilowatt, q: Kilowatt) -> Kilowatt
+    ensures { λ r. ⌜ (r .0 ≤ p .0) × (r .0 ≤ q .0) ⌝ }
+{
+    if p.0 < q.0 { p } else { q }
+}
+
+fn higher(p: Kilowatt, q: Kilowatt) -> Kilowatt
+    ensures { λ r. ⌜ (p .0 ≤ r .0) × (q .0 ≤ r .0) ⌝ }
+{
+    if p.0 < q.0 { q } else { p }
+}
+
+// The extremes of a lane's pairs and of what was seen before.
+fn extremes_in(report: &[u8], slot: &[u8], in_report: bool, count: u16, seen: Extremes) -> Extremes
+    ensures { λ r. ⌜ WiderBy (pairOf (now (report .entry)) (now (slot .entry)) «in_report») count seen r ⌝ }
+{
+    let mut e = seen;
+    for j in 0..count {
+        let pair = pair_of(report, slot, in_report, j);
+        let lowest = lower(e.lowest, pair.power);
+        let highest = higher(e.highest, pair.power);
+        e = Extremes {
+            there: true,
+            lowest,
+            highest,
+        };
+    }
+    e
+}
+
+// The extremes of the lanes of a type that share a minute with the period.
+fn extremes_of(
+    b: &[u8],
+    report: &[u8],
+    lanes: [Lane; 9],
+    record_type: u8,
+    period: Period,
+) -> Extremes
+    ensures { λ r. ⌜ CoversType (now (b .entry)) (now (report .entry)) lanes «record_type» period r ⌝ }
+{
+    let lowest = Kilowatt(4294967295);
+    let highest = Kilowatt(0);
+    let mut e = Extremes {
+        there: false,
+        lowest,
+        highest,
+    };
+    let mut i = 0u8;
+    while i < 9 {
+        let at = i;
+        i += 1;
+        let lane = lanes[at as usize];
+        if (lane.record_type == record_type) & quantities::overlapping(lane.period, period) {
+            e = extremes_in(report, lane_slot(b, at), at == 0, lane.count, e);
+        }
+    }
+    e
+}
+
+fn extremes_fit(kind: u8, range: PowerRange, f: Extremes, p: Extremes, n: Extremes) -> bool
+    ensures { λ r. ⌜ r ≡ extremesFit kind range f p n ⌝ }
+{
+    let power = p.highest;
+    let there = p.there;
+    let positive = Level { there, power };
+    let power = n.highest;
+    let there = n.there;
+    let negative = Level { there, power };
+    let power = f.highest;
+    let there = f.there;
+    let forced = Level { there, power };
+    let highest = Levels {
+        forced,
+        positive,
+        negative,
+    };
+    let power = f.lowest;
+    let forced = Level { there, power };
+    let lowest = Levels {
+        forced,
+        positive,
+        negative,
+    };
+    levels_fit(kind, range, highest) & levels_fit(kind, range, lowest)
+}
+
+// Question 17 in every minute of a period, of the records of one direction. Only where the extremes do not fit is it swept.
+pub fn fits(
+    b: &[u8],
+    report: &[u8],
+    swept: Swept,
+    direction: u8,
+    period: Period,
+    kind: u8,
+    range: PowerRange,
+) -> bool
+    ensures { λ r. ⌜ r ≡ levelsEvery (levelsFit kind range) (sweptRecords (now (b .entry)) (now (report .entry)) (swept .counted) (swept .«with_report»)) direction (period .start .0) (period .end .0) ⌝ }
+{
+    let lanes = lanes_of(b, report, swept, direction);
+    let forced = extremes_of(b, report, lanes, FORCED_WORK, period);
+    let positive = extremes_of(b, report, lanes, POSITIVE_DERATING, period);
+    let negative = extremes_of(b, report, lanes, NEGATIVE_DERATING, period);
+    if extremes_fit(kind, range, forced, positive, negative) {
+        return true;
+    }
+    sweep_lanes(b, report, lanes, period, kind, range).fits
 }
 
 // What warnings 2 and 4 ask of a level itself.

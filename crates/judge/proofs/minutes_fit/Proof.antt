@@ -10,7 +10,7 @@ returns c = minutes-skipped _ (c .before .before .before .before .args .unit) _ 
 returns-2 : tie.Need-returns-2
 returns-2 c = minutes-swept _ (c .before .before .before .before .before .before .args .unit) _
     (c .before .before .before .is-levelled .ensures) (c .before .before .if1 .left) (c .before .range-of .ensures)
-    (c .sweep .ensures)
+    (c .fits2 .ensures)
 
 pub minutes-fit-spec : {M : Type 1} → statement M
 minutes-fit-spec =

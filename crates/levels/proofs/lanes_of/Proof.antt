@@ -2,16 +2,15 @@ use borrow.Author.Needs.{needs}
 use native.Mathlib.Omega.{arith}
 use Prim.Native.Nat.{_-_}
 use Rattle.levels.specs.Lanes.{laneAt}
-use Rattle.levels.proofs.Tracks.{Filled, filled-start, filled-next, filled-end}
+use Rattle.levels.proofs.Choosing.{Filled, filled-start, filled-next, filled-end}
 use Rattle.levels.proofs.lanes_of.Statement.{statement}
 use Rattle.levels.proofs.lanes_of.Tie as tie
 
 abbrev Inv-loop : tie.InvT-loop
-Inv-loop b report swept direction types₀ starts₀ ends₀ counts₀ i₀ types starts ends counts i = Filled
-    (laneAt b report swept direction) types starts ends counts i
+Inv-loop b report swept direction lanes₀ i₀ lanes i = Filled (laneAt b report swept direction) lanes i
 
 abbrev μ-loop : tie.MeasureT-loop
-μ-loop b report swept direction types₀ starts₀ ends₀ counts₀ i₀ types starts ends counts i = 9 - i
+μ-loop b report swept direction lanes₀ i₀ lanes i = 9 - i
 
 loop-again : tie.Need-loop-again Inv-loop μ-loop
 loop-again c = filled-next _ (c .before .before .loop .inv) (c .before .loop-test .taken) (c .lane-at .ensures)
@@ -22,16 +21,9 @@ lanes-of-spec =
     (tie.spec
     Inv-loop
     μ-loop
+    (λ c κs. search needs)
     (λ c. filled-start _)
     (λ c κs. search needs)
-    (λ c. search needs)
-    (λ c. search needs)
-    (λ c. search needs)
-    (λ c. search needs)
-    (λ c. search needs)
-    (λ c. search needs)
-    (λ c. search needs)
-    (λ c. search needs)
     (λ c. search needs)
     (λ c. search needs)
     (λ c. search needs)

@@ -6,11 +6,11 @@ use Rattle.levels.proofs.level_in.Statement.{statement}
 use Rattle.levels.proofs.level_in.Tie as tie
 
 returns : tie.Need-returns
-returns c = before-start _ _ (c .before .before .before .before .before .before .before .pre .1) (c .none-until .ensures .0)
+returns c = before-start _ _ (c .before .before .before .before .before .before .before .before .pre .1) (c .none-until .ensures .0)
     (c .none-until .ensures .1) (c .before .if1 .taken)
 
 returns-2 : tie.Need-returns-2
-returns-2 c = past-end _ _ (c .before .before .before .before .before .before .before .before .before .before .pre .1)
+returns-2 c = past-end _ _ (c .before .before .before .before .before .before .before .before .before .before .before .pre .1)
     (c .none-until2 .ensures .0) (c .none-until2 .ensures .1) (c .before .if2 .taken) (omega arith)
 
 returns-3 : tie.Need-returns-3

@@ -1,21 +1,13 @@
 use borrow.Author.Needs.{needs}
-use native.Mathlib.Omega.{arith}
 use Rattle.levels.proofs.Parts.{pair-in-report, pair-in-slot}
 use Rattle.levels.proofs.pair_of.Statement.{statement}
 use Rattle.levels.proofs.pair_of.Tie as tie
-
-returns : tie.Need-returns
-returns c = pair-in-report _ _ _ (c .before .before .before .if1 .taken) (c .before .before .part-at .ensures) (c .size-of .ensures)
-
-returns-2 : tie.Need-returns-2
-returns-2 c = pair-in-slot _ _ _ (c .before .if1 .left) (c .pair-at .ensures)
 
 pub pair-of-spec : {M : Type 1} → statement M
 pair-of-spec =
     tie.close
     (tie.spec
     (λ c κs. search needs)
+    (λ c. pair-in-report _ _ _ _ (c .before .before .before .if1 .taken) (c .before .before .part-level .ensures))
     (λ c κs. search needs)
-    returns
-    (λ c κs. search needs)
-    returns-2)
+    (λ c. pair-in-slot _ _ _ _ (c .before .if1 .left) (c .pair-at .ensures)))

@@ -8,10 +8,10 @@ use Rattle.levels.proofs.step_among.Statement.{statement}
 use Rattle.levels.proofs.step_among.Tie as tie
 
 abbrev Inv-loop : tie.InvT-loop
-Inv-loop s in-report count place m j₀ j = Passed (pairOf s in-report) count j (m .0)
+Inv-loop s z in-report count place m j₀ j = Passed (pairOf s z in-report) count j (m .0)
 
 abbrev μ-loop : tie.MeasureT-loop
-μ-loop s in-report count place m j₀ j = count - j
+μ-loop s z in-report count place m j₀ j = count - j
 
 returns : tie.Need-returns Inv-loop μ-loop
 returns c = stepped-hit (c .before .before .before .before .before .before .before .loop .inv) (omega arith)
@@ -31,7 +31,7 @@ step-among-spec =
     (tie.spec
     Inv-loop
     μ-loop
-    (λ c. c .before .pre .1)
+    (λ c. c .before .before .pre .1)
     (λ c κs. search needs)
     returns
     (λ c. search needs)

@@ -1,6 +1,6 @@
 use native.Mathlib.Omega.{arith}
 use mathlib.Core.Path.{_∙_}
-use Rattle.levels.proofs.Tracks.{records-levels}
+use Rattle.levels.proofs.Choosing.{records-levels}
 use Rattle.levels.proofs.Turns.{found-records}
 use borrow.Author.Needs.{needs}
 use Rattle.levels.proofs.sweep.Statement.{statement}

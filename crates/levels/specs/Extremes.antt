@@ -1,0 +1,47 @@
+-- The lowest and the highest power of a type's lanes in a period: where these fit, every minute does.
+use Prim.Native.Nat.{ℕ, _≤_, _<_}
+use mathlib.Core.Path.{_≡_}
+use mathlib.Core.Bool.{Bool, true, _&&_}
+use mathlib.Core.List.{List}
+use Rattle.quantities.specs.declared.Kilowatt.{Kilowatt}
+use Rattle.quantities.specs.declared.Period.{Period}
+use Rattle.rules.specs.declared.Level.{Level}
+use Rattle.rules.specs.declared.Levels.{Levels}
+use Rattle.rules.specs.declared.PowerRange.{PowerRange}
+use Rattle.rules.specs.Minutes.{levelsFit}
+use Rattle.block.specs.declared.Pair.{Pair}
+use Rattle.levels.specs.declared.Extremes.{Extremes}
+use Rattle.levels.specs.declared.Lane.{Lane}
+use Rattle.levels.specs.Lanes.{laneIn, levelAmongLanes}
+
+-- a level that there is lies between the two; a power that is not there counts as 0
+pub record Covers (e : Extremes) (l : Level) : Type 0 where
+  pub there : l .there ≡ true → e .there ≡ true
+  pub low : l .there ≡ true → e .lowest .0 ≤ l .power .0
+  pub high : l .power .0 ≤ e .highest .0
+
+-- r covers what e covers
+pub record Wider (e r : Extremes) : Type 0 where
+  pub keeps : (l : Level) → Covers e l → Covers r l
+
+-- r covers what e covers, and n pairs
+pub record WiderBy (f : ℕ → Pair) (n : ℕ) (e r : Extremes) : Type 0 where
+  pub old : Wider e r
+  pub new : (j : ℕ) → j < n → Covers r (record { there = true; power = f j .power })
+
+-- the levels of a type in every minute of a period
+pub record CoversType (b s : List ℕ) (lanes : List Lane) (type : ℕ) (period : Period) (e : Extremes) : Type 0 where
+  pub covers : (k : ℕ) → period .start .0 ≤ k → k < period .end .0
+      → Covers e (levelAmongLanes b s (laneIn lanes) type 0 9 k)
+
+abbrev pub extremeLevels : Extremes → Kilowatt → Extremes → Extremes → Levels
+extremeLevels f power p n = record {
+  forced = record { there = f .there; power = power };
+  positive = record { there = p .there; power = p .highest };
+  negative = record { there = n .there; power = n .highest };
+}
+
+-- the highest and the lowest forced level fit beside the highest deratings
+unfoldable pub extremesFit : ℕ → PowerRange → Extremes → Extremes → Extremes → Bool
+extremesFit kind range f p n =
+    levelsFit kind range (extremeLevels f (f .highest) p n) && levelsFit kind range (extremeLevels f (f .lowest) p n)

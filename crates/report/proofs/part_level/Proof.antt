@@ -1,0 +1,24 @@
+use borrow.Author.Needs.{needs}
+use Rattle.report.proofs.Levels.{level-read, level-of-part}
+use Rattle.report.proofs.part_level.Statement.{statement}
+use Rattle.report.proofs.part_level.Tie as tie
+
+returns : tie.Need-returns
+returns c = level-read _ _ (c .before .before .u32-in .ensures) (c .before .u32-in2 .ensures) (c .if2 .taken)
+
+pub part-level-spec : {M : Type 1} → statement M
+part-level-spec =
+    tie.close
+    (tie.spec
+    (λ c. search needs)
+    (λ c. search needs)
+    (λ c. search needs)
+    (λ c. search needs)
+    (λ c. search needs)
+    (λ c κs. search needs)
+    (λ c. search needs)
+    (λ c κs. search needs)
+    returns
+    (λ c κs. search needs)
+    (λ c κs. search needs)
+    (λ c. level-of-part _ _ (c .before .before .part-at .ensures) (c .size-of .ensures)))
