@@ -95,9 +95,9 @@ pub apart-few : (b : List ℕ) {end : ℕ} → FreeFrom b end → end ≤ 1
 unfolding all series
 apart-few b w few =
     sym (all-intro (λ i. all (λ j. slotsApart (slotAt b i) (slotAt b j)) (series (λ j. j) 0 i)) (λ i. i) 0 slotCount each) where
-  each : (i : ℕ) → 0 ≤ i → i < 0 + slotCount → all (λ j. slotsApart (slotAt b i) (slotAt b j)) (series (λ j. j) 0 i) ≡ true
-  each zero l h = refl
-  each (suc i) l h = apart-free b (suc i) (w .free (suc i) (omega arith) (omega arith))
+      each : (i : ℕ) → 0 ≤ i → i < 0 + slotCount → all (λ j. slotsApart (slotAt b i) (slotAt b j)) (series (λ j. j) 0 i) ≡ true
+      each zero l h = refl
+      each (suc i) l h = apart-free b (suc i) (w .free (suc i) (omega arith) (omega arith))
 
 -- the search for the last used slot
 pub record Searched (b : List ℕ) (end i : ℕ) : Type 0 where

@@ -1,25 +1,32 @@
 -- A part's level, read where the power's sign bit is clear. Assumes nothing.
-use Prim.Native.Nat.{ℕ, _+_, _*_, _<_}
+use Prim.Native.Nat.{ℕ, _+_, _*_, _-_, _<_}
 use mathlib.Core.Path.{_≡_, ap, sym, _∙_}
 use mathlib.Core.List.{List}
+use native.Mathlib.Omega.{arith}
 use lib.IntN.{natAbs}
+use lib.ListN.{take, drop}
 use mir.Syntax.{w32}
 use mir.Val.{toZ}
 use mir.ValLaws.{toZ-pos}
-use Rattle.fields.specs.Fields.{u32At}
+use Rattle.fields.specs.Fields.{u8At, u32At}
+use Rattle.fields.specs.Lists.{series}
 use Rattle.quantities.specs.declared.Kilowatt.{Kilowatt}
-use Rattle.quantities.specs.Quantities.{sizeOf}
+use Rattle.quantities.specs.declared.Minute.{Minute}
+use Rattle.quantities.specs.Quantities.{minuteAt, sizeOf}
 use Rattle.report.specs.declared.Part.{Part}
 use Rattle.report.specs.Report.{partAt, partLevel}
+use Rattle.report.proofs.Padded.{number-copied}
 
-pub level-read : (s : List ℕ) (i : ℕ) {end bits : ℕ} → end ≡ u32At s (48 + 16 * i + 4 + 4) → bits ≡ u32At s (48 + 16 * i + 12)
-    → bits < 2147483648 → record { end = record { 0 = end }; power = record { 0 = bits } } ≡ partLevel s i
-level-read s i {end} {bits} e q l =
+pub level-read : (s : List ℕ) (i : ℕ) {p : List ℕ} {end : Minute} {bits : ℕ}
+    → p ≡ series (u8At (take (48 + 16 * i + 16 - (48 + 16 * i)) (drop (48 + 16 * i) s))) 0 16 → end ≡ minuteAt p 8
+    → bits ≡ u32At p 12 → bits < 2147483648 → record { end = end; power = record { 0 = bits } } ≡ partLevel s i
+level-read s i {p} {end} {bits} copied e q l =
     let size : bits ≡ natAbs (toZ w32 bits) = sym (ap natAbs (toZ-pos w32 bits l)) in
-    λ k. record {
-      end = record { 0 = e k };
-      power = record { 0 = (size ∙ ap (λ (n : ℕ). natAbs (toZ w32 n)) q) k };
-    }
+    let a : 48 + 16 * i + 4 + 4 ≡ 48 + 16 * i + 8 = omega arith in
+    let there : bits ≡ u32At s (48 + 16 * i + 12) = q ∙ number-copied s i copied 12 (omega arith) in
+    let ends : u32At p 8 ≡ u32At s (48 + 16 * i + 4 + 4) = number-copied s i copied 8 (omega arith) ∙ ap (u32At s) (sym a) in
+    let start : end ≡ record { 0 = u32At s (48 + 16 * i + 4 + 4) } = e ∙ (λ k. record { 0 = ends k }) in
+    λ k. record { end = start k; power = record { 0 = (size ∙ ap (λ (n : ℕ). natAbs (toZ w32 n)) there) k } }
 
 pub level-of-part : (s : List ℕ) (i : ℕ) {p : Part} {k : Kilowatt} → p ≡ partAt s i → k ≡ sizeOf (p .power)
     → record { end = p .period .end; power = k } ≡ partLevel s i
