@@ -43,20 +43,23 @@ put-first xs ys vs at h =
     )
     (sym (append-assoc (take at xs ++ vs) (drop (at + length vs) xs) ys))
 
-pub put-second : (xs ys vs : List ℕ) (n at : ℕ) → length xs ≡ n → at + length vs ≤ length ys → put (xs ++ ys) (n + at) vs ≡ xs ++ put ys at vs
+pub put-second : (xs ys vs : List ℕ) (n at : ℕ) → length xs ≡ n → at + length vs ≤ length ys
+    → put (xs ++ ys) (n + at) vs ≡ xs ++ put ys at vs
 unfolding put
 put-second xs ys vs n at e h =
     let room : n + at + length vs ≤ length (xs ++ ys) = rw (length-append xs) (omega arith) in
     let k : n + at + length vs ≡ n + (at + length vs) = omega arith in
     let d : drop (n + at + length vs) (xs ++ ys) ≡ drop (at + length vs) ys =
-    ap (λ (j : ℕ). drop j (xs ++ ys)) k ∙ sym (drop-drop (at + length vs) n (xs ++ ys)) ∙ ap (drop (at + length vs)) (drop-at xs ys n e) in
+    ap (λ (j : ℕ). drop j (xs ++ ys)) k ∙ sym (drop-drop (at + length vs) n (xs ++ ys))
+    ∙ ap (drop (at + length vs)) (drop-at xs ys n e) in
     let t : take (n + at) (xs ++ ys) ≡ xs ++ take at ys =
     take-add n at (xs ++ ys) ∙ rw (take-at xs ys n e, drop-at xs ys n e) in
     rw (sets-eq vs (xs ++ ys) (n + at) room, sets-eq vs ys at h, d, t, append-assoc xs (take at ys) vs)
     (append-assoc xs (take at ys ++ vs) (drop (at + length vs) ys))
 
 -- a block's slots one after the other
-slots-joined : (b : List ℕ) (i n : ℕ) → length b ≡ headSize + slotSize * (i + n) → joined (slotAt b) i n ≡ drop (headSize + slotSize * i) b
+slots-joined : (b : List ℕ) (i n : ℕ) → length b ≡ headSize + slotSize * (i + n)
+    → joined (slotAt b) i n ≡ drop (headSize + slotSize * i) b
 unfolding joined slotAt part
 slots-joined b i zero e = sym (none (drop (headSize + slotSize * i) b) (rw (length-drop) (omega arith))) where
   none : (l : List ℕ) → length l ≡ 0 → l ≡ []
@@ -76,7 +79,8 @@ row-first H J row e =
     (put-first (put H 7 (row .state ∷ row .qualification ∷ [])) J (bytesOf 4 (row .since .0)) 12 (omega arith))
 
 -- what is put in a block's head
-pub head-first : (H J : List ℕ) (t : Bool) (row : Row) (v : ℕ) → length H ≡ headSize → headMade (H ++ J) t row v ≡ headMade H t row v ++ J
+pub head-first : (H J : List ℕ) (t : Bool) (row : Row) (v : ℕ) → length H ≡ headSize
+    → headMade (H ++ J) t row v ≡ headMade H t row v ++ J
 unfolding headMade pick
 head-first H J true row v e =
     let n = bytes-length 4 v in
@@ -130,7 +134,8 @@ module _ (b s : List ℕ) (plan : Plan) where
       mixed-length : (i v : ℕ) → v < slotCount → length (mixed i v) ≡ slotSize
       unfolding mixed
       mixed-length i v h =
-          pick-elim (λ (x : List ℕ). length x ≡ slotSize) (ltb v i) (λ e. made-length _ _ _ (slot-size b size v h)) (λ e. slot-size b size v h)
+          pick-elim (λ (x : List ℕ). length x ≡ slotSize) (ltb v i) (λ e. made-length _ _ _ (slot-size b size v h))
+          (λ e. slot-size b size v h)
 
       slot-yet : (i : ℕ) → i < slotCount → part (progress i) (headSize + slotSize * i) slotSize ≡ slotAt b i
       unfolding progress
@@ -148,27 +153,42 @@ module _ (b s : List ℕ) (plan : Plan) where
       slot-put-in : (i : ℕ) → i < slotCount → put (progress i) (headSize + slotSize * i) (slotPlanned b s plan i) ≡ progress (i + 1)
       unfolding progress
       slot-put-in i h =
-          let here : slotPlanned b s plan i ≡ mixed (i + 1) (0 + i) = sym (ap (mixed (i + 1)) (zero-add i) ∙ mixed-below (i + 1) i (omega arith)) in
+          let here : slotPlanned b s plan i ≡ mixed (i + 1) (0 + i) = sym
+          (ap (mixed (i + 1)) (zero-add i) ∙ mixed-below (i + 1) i (omega arith)) in
           let long : length (mixed (i + 1) (0 + i)) ≡ slotSize = mixed-length (i + 1) (0 + i) (omega arith) in
-          let whole : length (joined (mixed i) 0 slotCount) ≡ 7104 = joined-length slotSize (mixed i) 0 slotCount (λ v a c. mixed-length i v (omega arith)) in
+          let whole : length (joined (mixed i) 0 slotCount) ≡ 7104 = joined-length slotSize (mixed i) 0 slotCount
+          (λ v a c. mixed-length i v (omega arith)) in
           rw here
-          (put-second (part b 0 headSize) (joined (mixed i) 0 slotCount) (mixed (i + 1) (0 + i)) headSize (slotSize * i) head-size (omega arith)
+          (put-second (part b 0 headSize) (joined (mixed i) 0 slotCount) (mixed (i + 1) (0 + i)) headSize
+          (slotSize * i) head-size (omega arith)
           ∙ ap (λ (l : List ℕ). part b 0 headSize ++ l)
           (put-joined slotSize (mixed i) 0 slotCount (λ v a c. mixed-length i v (omega arith)) i h (mixed (i + 1)) long (same i)))
         where
           same : (j w : ℕ) → (w ≡ 0 + j → ⊥) → 0 ≤ w → w < 0 + slotCount → mixed j w ≡ mixed (j + 1) w
-          same j w d l r = ⊎-elim (λ a. mixed-below j w a ∙ sym (mixed-below (j + 1) w (omega arith))) (λ a. mixed-above j w a ∙ sym (mixed-above (j + 1) w (omega arith))) (lt-or-le w j)
+          same j w d l r = ⊎-elim (λ a. mixed-below j w a ∙ sym (mixed-below (j + 1) w (omega arith)))
+              (λ a. mixed-above j w a ∙ sym (mixed-above (j + 1) w (omega arith))) (lt-or-le w j)
 
       -- one slot more
-      pub progress-more : (c : List ℕ) (i : ℕ) → c ≡ progress i → i < slotCount → put c (headSize + slotSize * i) (slotMade s (eqb i (plan .written)) (getD (plan .cleared) i false) (part c (headSize + slotSize * i) slotSize)) ≡ progress (i + 1)
+      pub progress-more : (c : List ℕ) (i : ℕ) → c ≡ progress i → i < slotCount
+          → put c (headSize + slotSize * i)
+          (slotMade s (eqb i (plan .written)) (getD (plan .cleared) i false)
+          (part c (headSize + slotSize * i) slotSize)) ≡ progress (i + 1)
       progress-more c i e h =
           rw (e, slot-yet i h) (slot-put-in i h)
 
       -- what the loop's turn leaves, the slot lent and given back as vs
-      pub slot-turned : (c vs : List ℕ) (i : ℕ) → c ≡ progress i → i < slotCount → length vs ≡ length (take (headSize + slotSize * i + slotSize - (headSize + slotSize * i)) (drop (headSize + slotSize * i) c)) → vs ≡ slotMade s (eqb i (plan .written)) (getD (plan .cleared) i false) (take (headSize + slotSize * i + slotSize - (headSize + slotSize * i)) (drop (headSize + slotSize * i) c)) → take (headSize + slotSize * i) c ++ (vs ++ drop (headSize + slotSize * i + slotSize - (headSize + slotSize * i)) (drop (headSize + slotSize * i) c)) ≡ progress (i + 1)
+      pub slot-turned : (c vs : List ℕ) (i : ℕ) → c ≡ progress i → i < slotCount
+          → length vs ≡ length (take (headSize + slotSize * i + slotSize - (headSize + slotSize * i))
+          (drop (headSize + slotSize * i) c))
+          → vs ≡ slotMade s (eqb i (plan .written)) (getD (plan .cleared) i false)
+          (take (headSize + slotSize * i + slotSize - (headSize + slotSize * i)) (drop (headSize + slotSize * i) c))
+          → take (headSize + slotSize * i) c ++
+          (vs ++ drop (headSize + slotSize * i + slotSize - (headSize + slotSize * i))
+          (drop (headSize + slotSize * i) c)) ≡ progress (i + 1)
       slot-turned c vs i e h l f =
           let n : length c ≡ blockSize = ap length e ∙ progress-length i in
-          lent-back (slotMade s (eqb i (plan .written)) (getD (plan .cleared) i false)) c (headSize + slotSize * i) slotSize vs (omega arith) l f
+          lent-back (slotMade s (eqb i (plan .written)) (getD (plan .cleared) i false)) c (headSize + slotSize * i) slotSize vs
+          (omega arith) l f
           ∙ progress-more c i e h
 
 -- the length of a part that is lent
@@ -176,21 +196,30 @@ pub lent-length : (s : List ℕ) (at n : ℕ) → at + n ≤ length s → length
 lent-length s at n h = ap length (part-lent s at n) ∙ part-length s at n h
 
 -- the two ways out
-pub applied : (b s : List ℕ) (plan : Plan) {c d : List ℕ} {row : Row} {stamp : ℕ} → length b ≡ blockSize → partCount s ≤ 100 → row ≡ rowPlanned b s → stamp ≡ stampOf s → c ≡ slotsPlanned b s plan → d ≡ headMade c (plan .changes) row stamp → d ≡ planApplied b s plan
+pub applied : (b s : List ℕ) (plan : Plan) {c d : List ℕ} {row : Row} {stamp : ℕ} → length b ≡ blockSize → partCount s ≤ 100
+    → row ≡ rowPlanned b s → stamp ≡ stampOf s → c ≡ slotsPlanned b s plan → d ≡ headMade c (plan .changes) row stamp
+    → d ≡ planApplied b s plan
 unfolding planApplied pick slotsPlanned
 applied b s plan size few r t e f =
     f ∙ rw (e, r, t, eq-eqb (length b) blockSize size, le-leb (partCount s) 100 few)
-    (head-first (part b 0 headSize) (joined (slotPlanned b s plan) 0 slotCount) (plan .changes) (rowPlanned b s) (stampOf s) (part-length b 0 headSize (omega arith)))
+    (head-first (part b 0 headSize) (joined (slotPlanned b s plan) 0 slotCount) (plan .changes) (rowPlanned b s) (stampOf s)
+    (part-length b 0 headSize (omega arith)))
 
 -- the test of the code, on the head that it read
-test-read : (b s : List ℕ) {h : Head} → h ≡ headOf s → (eqb (length b) blockSize && leb (h .«part_count») 100) ≡ (eqb (length b) blockSize && leb (partCount s) 100)
+test-read : (b s : List ℕ) {h : Head} → h ≡ headOf s
+    → (eqb (length b) blockSize && leb (h .«part_count») 100) ≡ (eqb (length b) blockSize && leb (partCount s) 100)
 test-read b s e = ap (λ (h : Head). eqb (length b) blockSize && leb (h .«part_count») 100) e
 
-pub tested : (b s : List ℕ) {h : Head} → h ≡ headOf s → (eqb (length b) blockSize && leb (h .«part_count») 100) ≡ true → (length b ≡ blockSize) × (partCount s ≤ 100)
+pub tested : (b s : List ℕ) {h : Head} → h ≡ headOf s → (eqb (length b) blockSize && leb (h .«part_count») 100) ≡ true
+    → (length b ≡ blockSize) × (partCount s ≤ 100)
 tested b s e t =
-    let f : (eqb (length b) blockSize && leb (partCount s) 100) ≡ true = sym (test-read b s e) ∙ t in
-    (eqb-true _ _ (and-left (eqb (length b) blockSize) (leb (partCount s) 100) f), leb-true _ _ (and-right (eqb (length b) blockSize) (leb (partCount s) 100) f))
+    let f : (eqb (length b) blockSize && leb (partCount s) 100) ≡ true = sym (test-read b s e) ∙ t in (
+      eqb-true _ _ (and-left (eqb (length b) blockSize) (leb (partCount s) 100) f),
+      leb-true _ _
+          (and-right (eqb (length b) blockSize) (leb (partCount s) 100) f),
+    )
 
-pub left-alone : (b s : List ℕ) (plan : Plan) {h : Head} → h ≡ headOf s → (eqb (length b) blockSize && leb (h .«part_count») 100) ≡ false → b ≡ planApplied b s plan
+pub left-alone : (b s : List ℕ) (plan : Plan) {h : Head} → h ≡ headOf s
+    → (eqb (length b) blockSize && leb (h .«part_count») 100) ≡ false → b ≡ planApplied b s plan
 unfolding planApplied pick
 left-alone b s plan e t = rw (sym (test-read b s e) ∙ t) refl

@@ -41,17 +41,20 @@ module _ (b s : List ℕ) (p : Passed b s) (changes : changesState b s ≡ true)
   no-withdrawal true w =
       let way = and-right (eqb (unitHead b .kind) W1) (isEvent s || begins b s) changes in
       let begun-now : begins b s ≡ true = rw (no-event w (isEvent s) refl) at way in
-      let operation = and-right (holdsState (recordOf s)) (isOperation create s || isOperation change s && not (begun (heldRecord b s))) begun-now in
+      let operation = and-right (holdsState (recordOf s))
+      (isOperation create s || isOperation change s && not (begun (heldRecord b s))) begun-now in
       absurd (false≢true (rw (eqb-true (headOf s .operation) withdraw w) at operation))
 
   row-moves : rowPlanned b s ≡ rowAfter b s
   unfolding pick
   row-moves =
-      let asked : hasTransition (unitHead b .row) (headOf s) ≡ true = rw (no-withdrawal (isWithdrawal s) refl, changes) at (p .q18) in
+      let asked : hasTransition (unitHead b .row) (headOf s) ≡ true = rw (no-withdrawal (isWithdrawal s) refl, changes) at
+      (p .q18) in
       rw asked
 
 module _ (b s : List ℕ) (plan : Plan) where
-  rows-same : Passed b s → (t : Bool) → changesState b s ≡ t → headMade (part b 0 headSize) t (rowPlanned b s) (stampOf s) ≡ headMade (part b 0 headSize) t (rowAfter b s) (stampOf s)
+  rows-same : Passed b s → (t : Bool) → changesState b s ≡ t
+      → headMade (part b 0 headSize) t (rowPlanned b s) (stampOf s) ≡ headMade (part b 0 headSize) t (rowAfter b s) (stampOf s)
   unfolding headMade pick
   rows-same p true e = ap (λ (row : Row). headMade (part b 0 headSize) true row (stampOf s)) (row-moves b s p e)
   rows-same p false e = refl

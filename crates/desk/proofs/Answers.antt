@@ -37,7 +37,16 @@ module _ (b s : List ℕ) {d : Decision} (decided : d ≡ decisionOf b s) where
   number-is : d .number ≡ refusalNumber b s
   unfolding decisionOf pick
   number-is = ap (λ (d : Decision). d .number) decided ∙ by-case (refusalNumber b s) (eqb (refusalNumber b s) 0) refl where
-    by-case : (n : ℕ) (t : Bool) → eqb n 0 ≡ t → pick t (record { number = 0; cleared = series (cleared b s) 0 slotCount; written = slotWritten b s; changes = changesState b s; left = someSlot (leaves b s) }) (refusedDecision n) .number ≡ n
+    by-case : (n : ℕ) (t : Bool) → eqb n 0 ≡ t
+        → pick t (record {
+          number = 0;
+          cleared = series
+              (cleared b s) 0 slotCount;
+          written = slotWritten b s;
+          changes = changesState b s;
+          left = someSlot (leaves b s);
+        })
+        (refusedDecision n) .number ≡ n
     by-case n true e = sym (eqb-true n 0 e)
     by-case n false e = refl
 
@@ -61,12 +70,16 @@ module _ (b s : List ℕ) {d : Decision} (decided : d ≡ decisionOf b s) where
     unfolding decisionOf pick
     outcome = decided ∙ rw accepted
 
-    pub accepts : {left : List ℕ} {h : Head} {w : ℕ} → left ≡ planApplied b s (record { cleared = d .cleared; written = d .written; changes = d .changes }) → h ≡ headOf s → w ≡ warningsOn left h (d .left) → Is (judge b s) (record { number = 0; warnings = w }) left
+    pub accepts : {left : List ℕ} {h : Head} {w : ℕ}
+        → left ≡ planApplied b s (record { cleared = d .cleared; written = d .written; changes = d .changes }) → h ≡ headOf s
+        → w ≡ warningsOn left h (d .left) → Is (judge b s) (record { number = 0; warnings = w }) left
     unfolding judge pick
     accepts {left} {h} {w} p head q =
         let same : left ≡ blockAfter b s =
-        p ∙ plan-after b s _ long free few (ap (λ (d : Decision). d .cleared) outcome) (ap (λ (d : Decision). d .written) outcome) (ap (λ (d : Decision). d .changes) outcome) (sym number-is ∙ zero-now) in
-        let moved : warningsOn left h (d .left) ≡ warningsOn (blockAfter b s) (headOf s) (someSlot (leaves b s)) = rw (same, head, ap (λ (d : Decision). d .left) outcome) in
+        p ∙ plan-after b s _ long free few (ap (λ (d : Decision). d .cleared) outcome)
+        (ap (λ (d : Decision). d .written) outcome) (ap (λ (d : Decision). d .changes) outcome) (sym number-is ∙ zero-now) in
+        let moved : warningsOn left h (d .left) ≡ warningsOn (blockAfter b s) (headOf s) (someSlot (leaves b s)) = rw
+        (same, head, ap (λ (d : Decision). d .left) outcome) in
         let warned : w ≡ warnings b s = q ∙ moved ∙ warnings-same b s in
         (rw (accepted, warned), same ∙ rw accepted)
 

@@ -33,14 +33,15 @@ all-zeros z n l e =
 
 block-free : (unit : ℕ) (b : List ℕ) → blockWhole unit b ≡ true → FreeSlots b
 unfolding blockWhole slotWhole pick
-block-free unit b e = record { zero = λ i h f. all-zeros (slotAt b i) slotSize (slot-size b (ok-size unit b e) i h) (asked i h f) } where
-  asked : (i : ℕ) → i < slotCount → used (slotAt b i) ≡ false → zerosAt (slotAt b i) 0 slotSize ≡ true
-  asked i h f =
-      let slots = every-true _ e .1 .1 .1 .1 .1 .1 .0 in
-      let here =
-      all-at (λ i. slotWhole (unitHead b .kind) (unitHead b .«last_stamp») (slotAt b i)) (λ i. i) 0 slotCount i slots (omega arith)
-      (omega arith) in
-      rw f at here
+block-free unit b e = record
+    { zero = λ i h f. all-zeros (slotAt b i) slotSize (slot-size b (ok-size unit b e) i h) (asked i h f) } where
+      asked : (i : ℕ) → i < slotCount → used (slotAt b i) ≡ false → zerosAt (slotAt b i) 0 slotSize ≡ true
+      asked i h f =
+          let slots = every-true _ e .1 .1 .1 .1 .1 .1 .0 in
+          let here =
+          all-at (λ i. slotWhole (unitHead b .kind) (unitHead b .«last_stamp») (slotAt b i)) (λ i. i) 0 slotCount i slots (omega arith)
+          (omega arith) in
+          rw f at here
 
 block-whole : (reg : List ℕ) (unit : ℕ) → registerWhole reg ≡ true → Inside reg unit → blockWhole unit (blockAt reg unit) ≡ true
 unfolding piecesPass

@@ -46,7 +46,8 @@ half at n s = put s at (bytesOf 2 n)
 abbrev pub word : ℕ → ℕ → List ℕ → List ℕ
 word at n s = put s at (bytesOf 4 n)
 
--- "Report head, 48 bytes, offsets: 0 mark 52 50; 2 unit u16; 4 owner u16; 6 type u8; 7 operation u8; 8 direction u8; 9 start mark u8;
+-- "Report head, 48 bytes, offsets: 0 mark 52 50; 2 unit u16; 4 owner u16; 6 type u8; 7 operation u8; 8 direction u8; 9 start
+-- mark u8;
 -- 10 end mark u8; 11 qualification u8; 12 ordinal u16; .. 16 identifier, 16 bytes; 32 stamp; 36 start; 40 end, u32 each"
 abbrev pub unit : ℕ → List ℕ → List ℕ
 unit n s = half 2 n s

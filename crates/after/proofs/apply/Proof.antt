@@ -17,7 +17,8 @@ returns c =
     let test = slots .before .before .before .before in
     let head = test .before .before in
     let k = tested (head .before .before .before .args .b .now) _ (head .head-of .ensures) (test .if1 .taken) in
-    applied _ _ _ (k .0) (k .1) (slots .before .before .row-after .ensures) (ap (λ (h : Head). h .stamp .0) (head .head-of .ensures))
+    applied _ _ _ (k .0) (k .1) (slots .before .before .row-after .ensures)
+    (ap (λ (h : Head). h .stamp .0) (head .head-of .ensures))
     (slots .set-slots .ensures) (c .before .before .set-head .ensures)
 
 returns-2 : tie.Need-returns-2

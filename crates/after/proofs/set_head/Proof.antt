@@ -10,4 +10,5 @@ set-head-spec =
     (λ c κs. search needs)
     (λ c κs. search needs)
     (λ c. search needs)
-    (λ c. head-written _ _ _ _ (c .before .before .before .before .before .before .change-row .ensures) (c .before .before .put-minute .ensures)))
+    (λ c. head-written _ _ _ _ (c .before .before .before .before .before .before .change-row .ensures)
+    (c .before .before .put-minute .ensures)))

@@ -19,7 +19,8 @@ loop-holds c = risen-none (omega arith) (bits-back (omega arith) (c .i32-of .ens
 loop-again : tie.Need-loop-again Inv-loop μ-loop
 loop-again c =
     let back = bits-back {n = (c .before .before .u32-in .result)} (omega arith) (c .before .i32-of2 .ensures) in
-    risen-more (omega arith) (c .before .before .before .before .loop .inv) (omega arith) (omega arith) (back ∙ (c .before .before .u32-in .ensures)) (c .u32-in2 .ensures)
+    risen-more (omega arith) (c .before .before .before .before .loop .inv) (omega arith) (omega arith)
+    (back ∙ (c .before .before .u32-in .ensures)) (c .u32-in2 .ensures)
 
 returns : tie.Need-returns Inv-loop μ-loop
 returns c = (

@@ -15,7 +15,8 @@ loop-again : tie.Need-loop-again Inv-loop μ-loop
 loop-again c = searched-used (c .before .before .before .before .loop .inv) (c .before .before .before .loop-test .taken)
 
 loop-again-2 : tie.Need-loop-again-2 Inv-loop μ-loop
-loop-again-2 c = searched-free (c .before .before .before .before .loop .inv) (c .before .before .before .loop-test .taken) (c .before .before .slot-at .ensures) (c .before .is-used .ensures) (c .if1 .left)
+loop-again-2 c = searched-free (c .before .before .before .before .loop .inv) (c .before .before .before .loop-test .taken)
+    (c .before .before .slot-at .ensures) (c .before .is-used .ensures) (c .if1 .left)
 
 returns : tie.Need-returns Inv-loop μ-loop
 returns c = searched-all (c .before .loop .inv) (c .loop-test .left)

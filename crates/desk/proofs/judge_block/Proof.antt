@@ -10,7 +10,9 @@ returns c = refuses _ _ (c .before .before .before .decide .ensures) (c .before 
 returns-2 : tie.Need-returns-2
 returns-2 c =
     let given = c .before .before .before .before .before .before .before .before .before .before .before .before .before .before .pre in
-    accepts _ _ (c .before .before .before .before .before .before .before .before .before .before .decide .ensures) (given .0 .0) (given .1) (given .0 .1) (c .before .before .before .before .before .before .before .before .if1 .left) (c .before .before .before .before .before .apply .ensures) (c .before .head-of .ensures) (c .warnings-on .ensures)
+    accepts _ _ (c .before .before .before .before .before .before .before .before .before .before .decide .ensures)
+    (given .0 .0) (given .1) (given .0 .1) (c .before .before .before .before .before .before .before .before .if1 .left)
+    (c .before .before .before .before .before .apply .ensures) (c .before .head-of .ensures) (c .warnings-on .ensures)
 
 pub judge-block-spec : {M : Type 1} → statement M
 judge-block-spec =

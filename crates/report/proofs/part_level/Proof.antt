@@ -4,7 +4,8 @@ use Rattle.report.proofs.part_level.Statement.{statement}
 use Rattle.report.proofs.part_level.Tie as tie
 
 returns : tie.Need-returns
-returns c = level-read _ _ (c .before .before .before .before .before .first16 .ensures) (c .minute-at .ensures) (c .before .before .before .u32-at .ensures) (c .before .before .if2 .taken)
+returns c = level-read _ _ (c .before .before .before .before .before .first16 .ensures) (c .minute-at .ensures)
+    (c .before .before .before .u32-at .ensures) (c .before .before .if2 .taken)
 
 pub part-level-spec : {M : Type 1} → statement M
 part-level-spec =

@@ -70,7 +70,8 @@ slots =
     (withdrawn positiveDerating 15 30)
     (unitW ++ freed ++ held (negative 20000))
     -- dead at D+30, in every acceptance; the lowest free one is the dead one
-    ∷ becomes (unitW ++ held (positive 20000)) (eventAt 5 9 but stamp 29) (unitW but row R 8 9 but lastStamp 29 ++ held (positive 20000))
+    ∷ becomes (unitW ++ held (positive 20000)) (eventAt 5 9 but stamp 29)
+    (unitW but row R 8 9 but lastStamp 29 ++ held (positive 20000))
     ∷ becomes (unitW ++ held (positive 20000)) (eventAt 5 9 but stamp 30) (unitW but row R 8 9 but lastStamp 30)
     ∷ becomes
     (unitW ++ held (positive 20000) ++ slotOf (levelled positiveDerating 30 45 20000))
@@ -105,7 +106,8 @@ leaving =
     (begunStop 2 6 30)
     (unitW but row R 2 6 ++ begunDerating6 ++ slotOf (begunStop 2 6 30))
     -- an off-grid record
-    ∷ becomes (unitW ++ begunStop3 ++ begunDerating6) (offGridAt 1 6 30) (unitW but row RP 1 6 ++ slotOf (offGridAt 1 6 30) ++ begunDerating6)
+    ∷ becomes (unitW ++ begunStop3 ++ begunDerating6) (offGridAt 1 6 30)
+    (unitW but row RP 1 6 ++ slotOf (offGridAt 1 6 30) ++ begunDerating6)
     -- a planned stop that is begun, in its slot
     ∷ becomes
     (unitW ++ begunStop3 ++ slotOf (plannedStop 2 30 45))

@@ -16,7 +16,8 @@ use Rattle.rules.specs.Samples.{period, _but_, byte, half, created, slot
 use Rattle.rules.specs.Boundaries.Tests.{positive, sameBytes}
 use Rattle.rules.specs.Boundaries.Form.{minutes}
 
--- "Types: 1 stop, 2 positive derating, 3 negative derating, 4 forced work, 5 off-grid work, 6 event. Operations: 1 create, 2 change,
+-- "Types: 1 stop, 2 positive derating, 3 negative derating, 4 forced work, 5 off-grid work, 6 event. Operations: 1 create, 2
+-- change,
 -- 3 withdraw. Directions: 1 generation, 2 consumption, 3 both. .. Marks: 1 planned, 2 executed." "kind u8 (1 W1, 2 M1, 3 Z1, 4 A)"
 -- "1 R stop, 2 RO boiler lit, 3 U1 and 4 U2 .., 5 P work, 6 RP off-grid work" "8 RE"
 abbrev pub codes : List Bool
@@ -68,7 +69,8 @@ abbrev pub identifierAsBytes : List ℕ
 identifierAsBytes =
     0xA0 ∷ 0xA1 ∷ 0xA2 ∷ 0xA3 ∷ 0xA4 ∷ 0xA5 ∷ 0xA6 ∷ 0xA7 ∷ 0xA8 ∷ 0xA9 ∷ 0xAA ∷ 0xAB ∷ 0xAC ∷ 0xAD ∷ 0xAE ∷ 0xAF ∷ []
 
--- "Report head, 48 bytes, offsets: 0 mark 52 50; 2 unit u16; .. 44 text length t u16; 46 zero u16. Then k parts of 16 bytes: mark 50 4B,
+-- "Report head, 48 bytes, offsets: 0 mark 52 50; 2 unit u16; .. 44 text length t u16; 46 zero u16. Then k parts of 16 bytes:
+-- mark 50 4B,
 -- zero u16, start u32, end u32, signed kW i32. Then mark 54 58 and t bytes of text."
 abbrev pub reportAsBytes : List ℕ
 reportAsBytes =
@@ -79,7 +81,8 @@ reportAsBytes =
     ++ (0x50 ∷ 0x4B ∷ 0 ∷ 0 ∷ 0x54 ∷ 0x53 ∷ 0x52 ∷ 0x51 ∷ 0x44 ∷ 0x43 ∷ 0x42 ∷ 0x41 ∷ 0x74 ∷ 0x73 ∷ 0x72 ∷ 0x71 ∷ [])
     ++ (0x54 ∷ 0x58 ∷ 0x20 ∷ 0x21 ∷ 0x22 ∷ [])
 
--- "Slot: 0 mark 5A 47; 2 type; 3 direction; 4 qualification; 5 start mark; 6 ordinal u16; 8 identifier; 24 stamp; 28 start; 32 end; 36
+-- "Slot: 0 mark 5A 47; 2 type; 3 direction; 4 qualification; 5 start mark; 6 ordinal u16; 8 identifier; 24 stamp; 28 start; 32
+-- end; 36
 -- k u16; 38 zero; from 88 k pairs (part end u32, kW u32), then zeros."
 abbrev pub slotAsBytes : List ℕ
 slotAsBytes =

@@ -60,9 +60,12 @@ levelsW1M1 =
     ∷ gives 0 (unitW ++ held (brief positiveDerating 20000)) (brief forcedWork 0)
     ∷ gives 0 (unitW ++ held (brief negativeDerating 10000)) (brief forcedWork 200001)
     -- both, whichever is reported
-    ∷ gives 0 (unitW ++ held (brief positiveDerating 20000) ++ slotOf (brief negativeDerating 10000 but identifier 3)) (brief forcedWork 90000)
-    ∷ gives 17 (unitW ++ held (brief positiveDerating 20000) ++ slotOf (brief negativeDerating 10000 but identifier 3)) (brief forcedWork 180001)
-    ∷ gives 17 (unitW ++ held (brief positiveDerating 20000) ++ slotOf (brief negativeDerating 10000 but identifier 3)) (brief forcedWork 89999)
+    ∷ gives 0 (unitW ++ held (brief positiveDerating 20000) ++ slotOf (brief negativeDerating 10000 but identifier 3))
+    (brief forcedWork 90000)
+    ∷ gives 17 (unitW ++ held (brief positiveDerating 20000) ++ slotOf (brief negativeDerating 10000 but identifier 3))
+    (brief forcedWork 180001)
+    ∷ gives 17 (unitW ++ held (brief positiveDerating 20000) ++ slotOf (brief negativeDerating 10000 but identifier 3))
+    (brief forcedWork 89999)
     -- "of one direction"
     ∷ gives 0 (unitM ++ held (brief positiveDerating 20000)) (brief forcedWork 150000 but direction 2)
     ∷ gives 0 (unitM ++ held (brief forcedWork 150000 but direction 2)) (brief positiveDerating 190000)
@@ -78,11 +81,15 @@ levelsZ1 =
     ∷ gives 17 (unitZ ++ held (brief negativeDerating 5000)) (brief forcedWork 35001)
     ∷ gives 0 (unitZ ++ held (brief forcedWork 35000)) (brief positiveDerating 5000)
     ∷ gives 17 (unitZ ++ held (brief forcedWork 35000)) (brief positiveDerating 5001)
-    ∷ gives 0 (unitZ ++ held (brief positiveDerating 5000) ++ slotOf (brief negativeDerating 3000 but identifier 3)) (brief forcedWork 32000)
-    ∷ gives 17 (unitZ ++ held (brief positiveDerating 5000) ++ slotOf (brief negativeDerating 3000 but identifier 3)) (brief forcedWork 32001)
+    ∷ gives 0 (unitZ ++ held (brief positiveDerating 5000) ++ slotOf (brief negativeDerating 3000 but identifier 3))
+    (brief forcedWork 32000)
+    ∷ gives 17 (unitZ ++ held (brief positiveDerating 5000) ++ slotOf (brief negativeDerating 3000 but identifier 3))
+    (brief forcedWork 32001)
     -- a bound below 0 fits no level
-    ∷ gives 0 (unitZ ++ held (brief positiveDerating 20000) ++ slotOf (brief negativeDerating 20000 but identifier 3)) (brief forcedWork 0)
-    ∷ gives 17 (unitZ ++ held (brief positiveDerating 20000) ++ slotOf (brief negativeDerating 20001 but identifier 3)) (brief forcedWork 0)
+    ∷ gives 0 (unitZ ++ held (brief positiveDerating 20000) ++ slotOf (brief negativeDerating 20000 but identifier 3))
+    (brief forcedWork 0)
+    ∷ gives 17 (unitZ ++ held (brief positiveDerating 20000) ++ slotOf (brief negativeDerating 20001 but identifier 3))
+    (brief forcedWork 0)
     ∷ []
 
 -- a derating of two parts, from D+15 to D+30

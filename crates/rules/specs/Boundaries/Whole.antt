@@ -28,7 +28,8 @@ inM = entryBytes entryM
 abbrev pub inState : ℕ → ℕ → List ℕ
 inState state q = inW but byte 5 state but byte 6 q
 
--- 20. "Roster entry, 28 bytes: mark 4A 47; owner u16 (1–999); kind u8 (1 W1 .. 4 A); .. zero u8; .. Pmin ≤ Pmax; the consumption pair is
+-- 20. "Roster entry, 28 bytes: mark 4A 47; owner u16 (1–999); kind u8 (1 W1 .. 4 A); .. zero u8; .. Pmin ≤ Pmax; the consumption
+-- pair is
 -- 0 for W1 and Z1."
 abbrev pub entries : List Bool
 entries =

@@ -169,14 +169,20 @@ fn full_register(units: usize, parts: u32) -> Vec<u8> {
     register
 }
 
+/// Levels far from the limits.
+const FAR: u32 = 140_000;
+/// A first level that fits beside the positive deratings of its hour alone, not beside later ones.
+const NEAR: u32 = 198_960;
+
 /// The last unit's slots being used, its forced work is not created but changed, again and again.
-fn must_run(units: usize, parts: u32) -> Load {
+fn must_run(units: usize, parts: u32, first_level: u32) -> Load {
     const REPORTS: u16 = 20;
     let length = QUARTER * parts * POSITIVE_DERATINGS;
-    let levels: Vec<(u32, i32)> = steps(START, length, parts, 140_000)
+    let mut levels: Vec<(u32, i32)> = steps(START, length, parts, FAR)
         .into_iter()
         .map(|(end, power)| (end, power as i32))
         .collect();
+    levels[0].1 = first_level as i32;
     let mut fields = ReportFields::creation(units as u16, OWNER, RecordType::MustRun)
         .over(START, START + length)
         .stepping(&levels)
@@ -288,12 +294,11 @@ fn print_growth() -> Option<()> {
 
 /// The forced work of (c) on one unit, so that question 1 does not hide the sweep, with more and
 /// more parts in every record.
-fn print_growth_by_parts() -> Option<()> {
-    print_head("µs a report");
+fn print_growth_by_parts(row: &str, first_level: u32, all_parts: &[u32]) -> Option<()> {
     let mut before: Option<[f64; 2]> = None;
-    for parts in [1, 10, MOST_PARTS] {
-        let name = format!("(e) 1 unit, forced work, parts: {parts}");
-        let rates = checked_rates(&name, &must_run(1, parts), Some(0))?;
+    for &parts in all_parts {
+        let name = format!("{row}, parts: {parts}");
+        let rates = checked_rates(&name, &must_run(1, parts, first_level), Some(0))?;
         let [rattle, rust] = rates.map(|rate| 1e6 / rate);
         println!(
             "{name:<44} {rattle:>12.2} {rust:>12.2} {:>12.2}",
@@ -317,7 +322,7 @@ fn bench() -> Option<()> {
     print_rates("(b) 64 units, slots free, event", &event(), Some(0))?;
     print_rates(
         "(c) 64 units, slots full, forced work",
-        &must_run(MAX_UNITS, MOST_PARTS),
+        &must_run(MAX_UNITS, MOST_PARTS, FAR),
         Some(0),
     )?;
     let (free, full) = (
@@ -327,7 +332,9 @@ fn bench() -> Option<()> {
     print_question_1("(d) question 1 alone, slots free", free)?;
     print_question_1("(d) question 1 alone, slots full", full)?;
     print_growth()?;
-    print_growth_by_parts()
+    print_head("µs a report");
+    print_growth_by_parts("(e) 1 unit, forced work", FAR, &[1, 10, MOST_PARTS])?;
+    print_growth_by_parts("(f) the same near a limit", NEAR, &[10, MOST_PARTS])
 }
 
 fn main() -> ExitCode {
