@@ -18,7 +18,7 @@ use Rattle.fields.proofs.Joined.{joined-same, joined-length, part-joined, put-j
 use Rattle.fields.proofs.Numbers.{bytes-length}
 use Rattle.fields.proofs.Tests.{series-length}
 use Rattle.report.specs.declared.Head.{Head}
-use Rattle.report.specs.Report.{headOf, partsOf, partCount, partAt}
+use Rattle.report.specs.Report.{mostParts, headOf, partsOf, partCount, partAt}
 use Rattle.rules.specs.declared.Row.{Row}
 use Rattle.rules.specs.Block.{headSize, slotSize, slotCount, blockSize, slotAt}
 use Rattle.rules.specs.Questions.{recordOf, stampOf}
@@ -123,11 +123,11 @@ module _ (b s : List ℕ) (plan : Plan) where
     head-size : length (part b 0 headSize) ≡ headSize
     head-size = part-length b 0 headSize (omega arith)
 
-    module _ (few : partCount s ≤ 100) where
+    module _ (few : partCount s ≤ mostParts) where
       made-length : (t u : Bool) (z : List ℕ) → length z ≡ slotSize → length (slotMade s t u z) ≡ slotSize
       unfolding slotMade
       made-length t u z l =
-          let n : length (partsOf s) ≤ 100 = omega (arith, series-length (partAt s) 0 (partCount s)) in
+          let n : length (partsOf s) ≤ mostParts = omega (arith, series-length (partAt s) 0 (partCount s)) in
           pick-elim (λ (x : List ℕ). length x ≡ slotSize) t (λ e. slot-length (recordOf s) (partsOf s) (u8At s) 16 refl n)
           (λ e. pick-elim (λ (x : List ℕ). length x ≡ slotSize) u (λ q. zeros-length slotSize) (λ q. l))
 
@@ -196,30 +196,30 @@ pub lent-length : (s : List ℕ) (at n : ℕ) → at + n ≤ length s → length
 lent-length s at n h = ap length (part-lent s at n) ∙ part-length s at n h
 
 -- the two ways out
-pub applied : (b s : List ℕ) (plan : Plan) {c d : List ℕ} {row : Row} {stamp : ℕ} → length b ≡ blockSize → partCount s ≤ 100
+pub applied : (b s : List ℕ) (plan : Plan) {c d : List ℕ} {row : Row} {stamp : ℕ} → length b ≡ blockSize → partCount s ≤ mostParts
     → row ≡ rowPlanned b s → stamp ≡ stampOf s → c ≡ slotsPlanned b s plan → d ≡ headMade c (plan .changes) row stamp
     → d ≡ planApplied b s plan
 unfolding planApplied pick slotsPlanned
 applied b s plan size few r t e f =
-    f ∙ rw (e, r, t, eq-eqb (length b) blockSize size, le-leb (partCount s) 100 few)
+    f ∙ rw (e, r, t, eq-eqb (length b) blockSize size, le-leb (partCount s) mostParts few)
     (head-first (part b 0 headSize) (joined (slotPlanned b s plan) 0 slotCount) (plan .changes) (rowPlanned b s) (stampOf s)
     (part-length b 0 headSize (omega arith)))
 
 -- the test of the code, on the head that it read
 test-read : (b s : List ℕ) {h : Head} → h ≡ headOf s
-    → (eqb (length b) blockSize && leb (h .«part_count») 100) ≡ (eqb (length b) blockSize && leb (partCount s) 100)
-test-read b s e = ap (λ (h : Head). eqb (length b) blockSize && leb (h .«part_count») 100) e
+    → (eqb (length b) blockSize && leb (h .«part_count») mostParts) ≡ (eqb (length b) blockSize && leb (partCount s) mostParts)
+test-read b s e = ap (λ (h : Head). eqb (length b) blockSize && leb (h .«part_count») mostParts) e
 
-pub tested : (b s : List ℕ) {h : Head} → h ≡ headOf s → (eqb (length b) blockSize && leb (h .«part_count») 100) ≡ true
-    → (length b ≡ blockSize) × (partCount s ≤ 100)
+pub tested : (b s : List ℕ) {h : Head} → h ≡ headOf s → (eqb (length b) blockSize && leb (h .«part_count») mostParts) ≡ true
+    → (length b ≡ blockSize) × (partCount s ≤ mostParts)
 tested b s e t =
-    let f : (eqb (length b) blockSize && leb (partCount s) 100) ≡ true = sym (test-read b s e) ∙ t in (
-      eqb-true _ _ (and-left (eqb (length b) blockSize) (leb (partCount s) 100) f),
+    let f : (eqb (length b) blockSize && leb (partCount s) mostParts) ≡ true = sym (test-read b s e) ∙ t in (
+      eqb-true _ _ (and-left (eqb (length b) blockSize) (leb (partCount s) mostParts) f),
       leb-true _ _
-          (and-right (eqb (length b) blockSize) (leb (partCount s) 100) f),
+          (and-right (eqb (length b) blockSize) (leb (partCount s) mostParts) f),
     )
 
 pub left-alone : (b s : List ℕ) (plan : Plan) {h : Head} → h ≡ headOf s
-    → (eqb (length b) blockSize && leb (h .«part_count») 100) ≡ false → b ≡ planApplied b s plan
+    → (eqb (length b) blockSize && leb (h .«part_count») mostParts) ≡ false → b ≡ planApplied b s plan
 unfolding planApplied pick
 left-alone b s plan e t = rw (sym (test-read b s e) ∙ t) refl

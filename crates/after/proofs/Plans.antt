@@ -12,7 +12,7 @@ use Rattle.fields.specs.Lists.{pick, series, part}
 use Rattle.fields.proofs.Bools.{and-right}
 use Rattle.fields.proofs.Joined.{joined-same}
 use Rattle.fields.proofs.Tests.{series-at}
-use Rattle.report.specs.Report.{headOf, partsOf, partCount}
+use Rattle.report.specs.Report.{mostParts, headOf, partsOf, partCount}
 use Rattle.rules.specs.declared.Row.{Row}
 use Rattle.rules.specs.Block.{headSize, slotSize, slotCount, blockSize, zeros, unitHead, slotAt, used}
 use Rattle.rules.specs.Codes.{W1, create, change, withdraw}
@@ -86,11 +86,11 @@ module _ (b s : List ℕ) (plan : Plan) where
       (ap (λ (z : List ℕ). pick (eqb v (slotWritten b s)) (slotBytes (recordOf s) (partsOf s)) z)
       (slot-left free v h (used (slotAt b v)) (stays b s v) refl refl))
 
-  pub plan-after : length b ≡ blockSize → FreeSlots b → partCount s ≤ 100 → plan .cleared ≡ series (cleared b s) 0 slotCount
+  pub plan-after : length b ≡ blockSize → FreeSlots b → partCount s ≤ mostParts → plan .cleared ≡ series (cleared b s) 0 slotCount
       → plan .written ≡ slotWritten b s → plan .changes ≡ changesState b s → refusalNumber b s ≡ 0
       → planApplied b s plan ≡ blockAfter b s
   unfolding planApplied blockAfter pick
   plan-after size free few k w c zero-now =
-      rw (eq-eqb (length b) blockSize size, le-leb (partCount s) 100 few, head-same (passed b s zero-now) c)
+      rw (eq-eqb (length b) blockSize size, le-leb (partCount s) mostParts few, head-same (passed b s zero-now) c)
       (ap (λ (l : List ℕ). headAfter b s ++ l)
       (joined-same (slotPlanned b s plan) (slotAfter b s) 0 slotCount (λ v l r. slot-same free k w v (omega arith))))

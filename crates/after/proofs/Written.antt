@@ -16,10 +16,10 @@ use Rattle.quantities.specs.declared.Kilowatt.{Kilowatt}
 use Rattle.quantities.specs.Quantities.{sizeOf}
 use Rattle.report.specs.declared.Head.{Head}
 use Rattle.report.specs.declared.Part.{Part}
-use Rattle.report.specs.Report.{headOf, partAt, partsOf, partCount}
+use Rattle.report.specs.Report.{mostParts, headOf, partAt, partsOf, partCount}
 use Rattle.rules.specs.declared.Row.{Row}
 use Rattle.rules.specs.declared.UnitHead.{UnitHead}
-use Rattle.rules.specs.Block.{unitHead, slotMark, slotSize, zeros}
+use Rattle.rules.specs.Block.{pairsStart, pairSize, pairStart, unitHead, slotMark, slotSize, zeros}
 use Rattle.rules.specs.Questions.{recordOf, kilowatts}
 use Rattle.rules.specs.After.{pairBytes, slotBytes, putRow}
 use Rattle.rules.proofs.Slots.{pairs-length}
@@ -106,31 +106,31 @@ pairs-snoc (q ∷ ps) p = rw (pairs-snoc ps p)
     (sym (append-assoc (bytesOf 4 (q .period .end .0) ++ bytesOf 4 (kilowatts q)) (pairBytes ps) _))
 
 pairs-turn : (z : List ℕ) (j : ℕ) (s : List ℕ)
-    → put (put z 88 (pairBytes (series (partAt s) 0 j))) (88 + 8 * j) (pairOf (partAt s j)) ≡ put z 88
+    → put (put z pairsStart (pairBytes (series (partAt s) 0 j))) (pairStart j) (pairOf (partAt s j)) ≡ put z pairsStart
     (pairBytes (series (partAt s) 0 (j + 1)))
 pairs-turn z j s =
     let ps : List Part = series (partAt s) 0 j in
     let k : length (pairBytes ps) ≡ 8 * j = pairs-length ps ∙ ap (λ (n : ℕ). 8 * n) (series-length (partAt s) 0 j) in
     let last : partAt s (0 + j) ≡ partAt s j = ap (partAt s) (zero-add j) in
-    sym (ap (λ (l : List Part). put z 88 (pairBytes l)) (series-snoc (partAt s) 0 j ∙ ap (λ (q : Part). ps ++ (q ∷ [])) last)
-    ∙ ap (put z 88) (pairs-snoc ps (partAt s j))
-    ∙ put-append (pairBytes ps) (pairOf (partAt s j)) z 88
-    ∙ ap (λ (n : ℕ). put (put z 88 (pairBytes ps)) (88 + n) (pairOf (partAt s j))) k)
+    sym (ap (λ (l : List Part). put z pairsStart (pairBytes l)) (series-snoc (partAt s) 0 j ∙ ap (λ (q : Part). ps ++ (q ∷ [])) last)
+    ∙ ap (put z pairsStart) (pairs-snoc ps (partAt s j))
+    ∙ put-append (pairBytes ps) (pairOf (partAt s j)) z pairsStart
+    ∙ ap (λ (n : ℕ). put (put z pairsStart (pairBytes ps)) (pairsStart + n) (pairOf (partAt s j))) k)
 
-pub pairs-next : (z : List ℕ) (j : ℕ) (s : List ℕ) {y x : List ℕ} {p : Part} → y ≡ put z 88 (pairBytes (series (partAt s) 0 j))
-    → p ≡ partAt s j → x ≡ put y (88 + 8 * j) (pairOf p) → x ≡ put z 88 (pairBytes (series (partAt s) 0 (j + 1)))
+pub pairs-next : (z : List ℕ) (j : ℕ) (s : List ℕ) {y x : List ℕ} {p : Part} → y ≡ put z pairsStart (pairBytes (series (partAt s) 0 j))
+    → p ≡ partAt s j → x ≡ put y (pairStart j) (pairOf p) → x ≡ put z pairsStart (pairBytes (series (partAt s) 0 (j + 1)))
 pairs-next z j s {y} {x} {p} e f g = g ∙ rw (e, f) (pairs-turn z j s)
 
 -- a slot's first 88 bytes
 unfoldable front : List ℕ → List ℕ
 front s = codesBytes (headOf s) ++ series (u8At s) 16 16 ++ timesBytes (headOf s) ++ zeros 50
 
-front-put : (s : List ℕ) → put (put (put (zeros 888) 0 (codesBytes (headOf s))) 8 (series (u8At s) 16 16)) 24
-    (timesBytes (headOf s)) ≡ front s ++ zeros 800
+front-put : (s : List ℕ) → put (put (put (zeros slotSize) 0 (codesBytes (headOf s))) 8 (series (u8At s) 16 16)) 24
+    (timesBytes (headOf s)) ≡ front s ++ zeros (pairSize * mostParts)
 unfolding front put zeros bytesOf series codesBytes timesBytes
 front-put s = refl
 
-front-length : (s : List ℕ) → length (front s) ≡ 88
+front-length : (s : List ℕ) → length (front s) ≡ pairsStart
 unfolding front zeros bytesOf series codesBytes timesBytes
 front-length s = refl
 
@@ -150,27 +150,27 @@ blank-put xs vs n m e h =
       drop-zeros (length vs) m,
     )
 
-slot-front : (s : List ℕ) → front s ++ pairBytes (partsOf s) ++ zeros (slotSize - (88 + 8 * length (partsOf s))) ≡ slotBytes
+slot-front : (s : List ℕ) → front s ++ pairBytes (partsOf s) ++ zeros (slotSize - pairStart (length (partsOf s))) ≡ slotBytes
     (recordOf s) (partsOf s)
 unfolding front zeros bytesOf series codesBytes timesBytes slotBytes
 slot-front s = rw (series-length (partAt s) 0 (partCount s))
 
-slot-put : (s : List ℕ) → partCount s ≤ 100
-    → put (put (put (put (zeros 888) 0 (codesBytes (headOf s))) 8 (series (u8At s) 16 16)) 24 (timesBytes (headOf s))) 88
+slot-put : (s : List ℕ) → partCount s ≤ mostParts
+    → put (put (put (put (zeros slotSize) 0 (codesBytes (headOf s))) 8 (series (u8At s) 16 16)) 24 (timesBytes (headOf s))) pairsStart
     (pairBytes (partsOf s)) ≡ slotBytes (recordOf s) (partsOf s)
 slot-put s few =
     let n : length (partsOf s) ≡ partCount s = series-length (partAt s) 0 (partCount s) in
     let k : length (pairBytes (partsOf s)) ≡ 8 * length (partsOf s) = pairs-length (partsOf s) in
-    let r : 800 - length (pairBytes (partsOf s)) ≡ slotSize - (88 + 8 * length (partsOf s)) = omega arith in
-    ap (λ (z : List ℕ). put z 88 (pairBytes (partsOf s))) (front-put s)
-    ∙ blank-put (front s) (pairBytes (partsOf s)) 88 800 (front-length s) (omega arith)
+    let r : pairSize * mostParts - length (pairBytes (partsOf s)) ≡ slotSize - pairStart (length (partsOf s)) = omega arith in
+    ap (λ (z : List ℕ). put z pairsStart (pairBytes (partsOf s))) (front-put s)
+    ∙ blank-put (front s) (pairBytes (partsOf s)) pairsStart (pairSize * mostParts) (front-length s) (omega arith)
     ∙ ap (λ (m : ℕ). front s ++ pairBytes (partsOf s) ++ zeros m) r
     ∙ slot-front s
 
 -- a slot written by five calls
 pub slot-written : (s z : List ℕ) {a b c d e : List ℕ} {h : Head} → h ≡ headOf s → a ≡ zeros (length z)
     → b ≡ put a 0 (codesBytes h) → c ≡ put b 8 (series (u8At s) 16 16) → d ≡ put c 24 (timesBytes h)
-    → e ≡ put d 88 (pairBytes (series (partAt s) 0 (h .«part_count»))) → length z ≡ 888 → partCount s ≤ 100
+    → e ≡ put d pairsStart (pairBytes (series (partAt s) 0 (h .«part_count»))) → length z ≡ slotSize → partCount s ≤ mostParts
     → e ≡ slotBytes (recordOf s) (partsOf s)
 slot-written s z {a} {b} {c} {d} {e} {h} f g i j k m l few =
     m ∙ rw (k, j, i, g, l, f) (slot-put s few)
@@ -190,5 +190,5 @@ pub made-zeros : (s z : List ℕ) (cleared : Bool) {t : Bool} {x : List ℕ} →
 unfolding slotMade pick
 made-zeros s z cleared l e f g = g ∙ rw (e, f, l) refl
 
-pub head-few : (s : List ℕ) {h : Head} → h ≡ headOf s → partCount s ≤ 100 → h .«part_count» ≤ 100
+pub head-few : (s : List ℕ) {h : Head} → h ≡ headOf s → partCount s ≤ mostParts → h .«part_count» ≤ mostParts
 head-few s e few = rw e few

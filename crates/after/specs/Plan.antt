@@ -9,7 +9,7 @@ use Rattle.fields.specs.Fields.{bytesOf}
 use Rattle.fields.specs.Lists.{pick, joined, part, put}
 use Rattle.report.specs.declared.Head.{Head}
 use Rattle.report.specs.declared.Part.{Part}
-use Rattle.report.specs.Report.{headOf, partsOf, partCount}
+use Rattle.report.specs.Report.{mostParts, headOf, partsOf, partCount}
 use Rattle.rules.specs.declared.Row.{Row}
 use Rattle.rules.specs.Block.{headSize, slotSize, slotCount, blockSize, slotMark, zeros, unitHead, slotAt, used}
 use Rattle.rules.specs.Questions.{recordOf, stampOf, kilowatts}
@@ -58,6 +58,6 @@ slotsPlanned b s plan = part b 0 headSize ++ joined (slotPlanned b s plan) 0 slo
 -- a block of another length, or after a report of more than 100 parts, is left as it is
 unfoldable pub planApplied : List ℕ → List ℕ → Plan → List ℕ
 planApplied b s plan =
-    pick (eqb (length b) blockSize && leb (partCount s) 100)
+    pick (eqb (length b) blockSize && leb (partCount s) mostParts)
     (headPlanned b s plan ++ joined (slotPlanned b s plan) 0 slotCount)
     b

@@ -1,9 +1,16 @@
 // The block of an accepted report: a plan that was decided before is written.
+use block::BLOCK_SIZE;
+use block::HEAD_SIZE;
+use block::PAIR_SIZE;
+use block::PAIRS_START;
+use block::SLOT_COUNT;
+use block::SLOT_SIZE;
 use fields::put_u8;
 use fields::put_u16;
 use quantities::Minute;
 use quantities::put_minute;
 use report::Head;
+use report::MOST_PARTS;
 use report::Part;
 use rules::Row;
 ghost use mathlib.Core.Path.{_≡_};
@@ -11,9 +18,10 @@ ghost use Prim.Native.Nat.{_≤_};
 ghost use lib.ListN.{length};
 ghost use Rattle.fields.specs.Lists.{pick, series, put};
 ghost use Rattle.fields.specs.Fields.{u8At};
-ghost use Rattle.report.specs.Report.{partsOf, partCount, partAt};
+ghost use Rattle.report.specs.Report.{mostParts, partsOf, partCount, partAt};
 ghost use Rattle.rules.specs.Questions.{recordOf};
 ghost use Rattle.rules.specs.After.{putRow, pairBytes, slotBytes};
+ghost use Rattle.rules.specs.Block.{pairsStart, slotSize, blockSize};
 ghost use Rattle.after.specs.Plan.{codesBytes, timesBytes, pairOf, slotMade, rowPlanned, headMade, slotsPlanned, planApplied};
 
 // The slots that are cleared, the slot written (8: none), and whether the row changes.
@@ -62,17 +70,21 @@ fn put_pair(z: &mut [u8], at: usize, p: Part)
 }
 
 fn put_pairs(z: &mut [u8], report: &[u8], k: u16)
-    requires { ⌜ k ≤ 100 ⌝ }
-    ensures { λ _. ⌜ now (z .exit) ≡ put (now (z .entry)) 88 (pairBytes (series (partAt (now (report .entry))) 0 k)) ⌝ }
+    requires { ⌜ k ≤ mostParts ⌝ }
+    ensures { λ _. ⌜ now (z .exit) ≡ put (now (z .entry)) pairsStart (pairBytes (series (partAt (now (report .entry))) 0 k)) ⌝ }
 {
     for j in 0..k {
-        put_pair(z, 88 + 8 * (j as usize), report::part_at(report, j));
+        put_pair(
+            z,
+            PAIRS_START + PAIR_SIZE * (j as usize),
+            report::part_at(report, j),
+        );
     }
 }
 
 fn write_slot(z: &mut [u8], report: &[u8])
-    requires { ⌜ length (now z) ≡ 888 ⌝ }
-    requires { ⌜ partCount (now report) ≤ 100 ⌝ }
+    requires { ⌜ length (now z) ≡ slotSize ⌝ }
+    requires { ⌜ partCount (now report) ≤ mostParts ⌝ }
     ensures { λ _. ⌜ now (z .exit) ≡ slotBytes (recordOf (now (report .entry))) (partsOf (now (report .entry))) ⌝ }
 {
     let h = report::head_of(report);
@@ -84,8 +96,8 @@ fn write_slot(z: &mut [u8], report: &[u8])
 }
 
 fn set_slot(z: &mut [u8], report: &[u8], written: bool, cleared: bool)
-    requires { ⌜ length (now z) ≡ 888 ⌝ }
-    requires { ⌜ partCount (now report) ≤ 100 ⌝ }
+    requires { ⌜ length (now z) ≡ slotSize ⌝ }
+    requires { ⌜ partCount (now report) ≤ mostParts ⌝ }
     ensures { λ _. ⌜ now (z .exit) ≡ slotMade (now (report .entry)) written cleared (now (z .entry)) ⌝ }
 {
     if written {
@@ -96,13 +108,13 @@ fn set_slot(z: &mut [u8], report: &[u8], written: bool, cleared: bool)
 }
 
 fn set_slots(b: &mut [u8], report: &[u8], plan: Plan)
-    requires { ⌜ length (now b) ≡ 7168 ⌝ }
-    requires { ⌜ partCount (now report) ≤ 100 ⌝ }
+    requires { ⌜ length (now b) ≡ blockSize ⌝ }
+    requires { ⌜ partCount (now report) ≤ mostParts ⌝ }
     ensures { λ _. ⌜ now (b .exit) ≡ slotsPlanned (now (b .entry)) (now (report .entry)) plan ⌝ }
 {
-    for i in 0..8u8 {
-        let a = 64 + 888 * (i as usize);
-        let e = a + 888;
+    for i in 0..SLOT_COUNT {
+        let a = HEAD_SIZE + SLOT_SIZE * (i as usize);
+        let e = a + SLOT_SIZE;
         set_slot(
             &mut b[a..e],
             report,
@@ -149,7 +161,7 @@ pub fn apply(b: &mut [u8], report: &[u8], plan: Plan)
     ensures { λ _. ⌜ now (b .exit) ≡ planApplied (now (b .entry)) (now (report .entry)) plan ⌝ }
 {
     let h = report::head_of(report);
-    if (b.len() == 7168) & (h.part_count <= 100) {
+    if (b.len() == BLOCK_SIZE) & (h.part_count <= MOST_PARTS) {
         let row = row_after(b, report);
         set_slots(b, report, plan);
         set_head(b, plan.changes, row, h.stamp);

@@ -17,6 +17,7 @@ use Rattle.fields.specs.Fields.{u32At}
 use Rattle.fields.proofs.Bools.{and-left, and-right, lt-or-le}
 use Rattle.fields.proofs.Signed.{signed-order}
 use Rattle.quantities.specs.Quantities.{highestPower}
+use Rattle.rules.specs.Block.{pairsStart, pairStart}
 use Rattle.block.specs.Slot.{endsRise, PowersWithin, pairsRise}
 
 -- ends that rise to the last one do not pass it
@@ -35,7 +36,7 @@ ends-order z at (suc n) start end e =
 pub record EndsRisen (z : List ℕ) (k first end : ℕ) (rise : Bool) (bound start i : ℕ) : Type 0 where
   pub most : i ≤ k
   pub early : rise ≡ true → start < 2147483648
-  pub so-far : endsRise z 88 k first end ≡ (rise && endsRise z (88 + 8 * i) (k - i) start end)
+  pub so-far : endsRise z pairsStart k first end ≡ (rise && endsRise z (pairStart i) (k - i) start end)
   pub within : PowersWithin z i bound
 
 -- the bits of a signed number that was read of them
@@ -54,15 +55,15 @@ module _ {z : List ℕ} {k first end : ℕ} where
       }
 
   module _ {rise : Bool} {bound start next i power : ℕ} (late : end < 2147483648) (t : EndsRisen z k first end rise bound start i)
-      (l : i < k) (fits : next < 4294967296) (read : next ≡ u32At z (88 + 8 * i)) (loaded : power ≡ u32At z (88 + 8 * i + 4)) where
+      (l : i < k) (fits : next < 4294967296) (read : next ≡ u32At z (pairStart i)) (loaded : power ≡ u32At z (pairStart i + 4)) where
     abbrev rest : Bool
-    rest = endsRise z (88 + 8 * (i + 1)) (k - (i + 1)) next end
+    rest = endsRise z (pairStart (i + 1)) (k - (i + 1)) next end
 
     -- an end past every time is followed by none that rise to the last
     no-time : (v : Bool) → rest ≡ v → v ≡ (ltb next 2147483648 && v)
     no-time false e = sym (and-false (ltb next 2147483648))
     no-time true e =
-        let most = ends-order z (88 + 8 * (i + 1)) (k - (i + 1)) next end e in
+        let most = ends-order z (pairStart (i + 1)) (k - (i + 1)) next end e in
         sym (rw (lt-ltb next 2147483648 (omega arith)))
 
     abbrev later : Bool
@@ -74,19 +75,19 @@ module _ {z : List ℕ} {k first end : ℕ} where
         rw (signed-order start next (h refl) fits)
         (ap (λ (r : Bool). ltb start next && r) (no-time rest refl) ∙ sym (and-assoc (ltb start next) (ltb next 2147483648) rest))
 
-    opened : endsRise z (88 + 8 * i) (k - i) start end ≡ (ltb start next && rest)
+    opened : endsRise z (pairStart i) (k - i) start end ≡ (ltb start next && rest)
     unfolding endsRise
     opened =
         let left : k - i ≡ suc (k - (i + 1)) = omega arith in
-        let on : 88 + 8 * i + 8 ≡ 88 + 8 * (i + 1) = omega arith in
+        let on : pairStart i + 8 ≡ pairStart (i + 1) = omega arith in
         rw (left, on, ← read)
 
     powers : PowersWithin z (i + 1) (bitOr bound power)
     powers = record { at = λ j h. ⊎-elim (before j) (λ m. here j (omega arith)) (lt-or-le j i) } where
-      before : (j : ℕ) → j < i → u32At z (88 + 8 * j + 4) ≤ bitOr bound power
+      before : (j : ℕ) → j < i → u32At z (pairStart j + 4) ≤ bitOr bound power
       before j m = omega (arith, t .within .at j m, or-add-and bound power, and-le-r bound power)
 
-      here : (j : ℕ) → j ≡ i → u32At z (88 + 8 * j + 4) ≤ bitOr bound power
+      here : (j : ℕ) → j ≡ i → u32At z (pairStart j + 4) ≤ bitOr bound power
       here j e = rw e (omega (arith, loaded, or-add-and bound power, and-le-l bound power))
 
     pub risen-more : EndsRisen z k first end (rise && later) (bitOr bound power) next (i + 1)
@@ -102,7 +103,7 @@ module _ {z : List ℕ} {k first end : ℕ} where
           (and-right (ltb start next) (ltb next 2147483648) (sym (signed-order start next h fits) ∙ e))
 
   pub risen-all : {rise : Bool} {bound start i last : ℕ} → EndsRisen z k first end rise bound start i → k ≤ i → last ≡ end
-      → (rise && eqb start last) ≡ endsRise z 88 k first end
+      → (rise && eqb start last) ≡ endsRise z pairsStart k first end
   unfolding endsRise
   risen-all {rise} {bound} {start} {i} {last} t h e =
       let none : k - i ≡ 0 = omega arith in
@@ -114,13 +115,13 @@ module _ {z : List ℕ} {k first end : ℕ} where
 
 -- where the bound is a power, the ends are all that is left to ask
 pub ends-enough : (z : List ℕ) (k start end bound : ℕ) → PowersWithin z k bound → bound ≤ highestPower
-    → endsRise z 88 k start end ≡ pairsRise z 88 k start end
+    → endsRise z pairsStart k start end ≡ pairsRise z pairsStart k start end
 unfolding endsRise pairsRise
 ends-enough z k start end bound w h = from 0 k start (omega arith) where
-  from : (i n start : ℕ) → i + n ≤ k → endsRise z (88 + 8 * i) n start end ≡ pairsRise z (88 + 8 * i) n start end
+  from : (i n start : ℕ) → i + n ≤ k → endsRise z (pairStart i) n start end ≡ pairsRise z (pairStart i) n start end
   from i zero start l = refl
   from i (suc n) start l =
-      let on : 88 + 8 * (i + 1) ≡ 88 + 8 * i + 8 = omega arith in
+      let on : pairStart (i + 1) ≡ pairStart i + 8 = omega arith in
       let small = w .at i (omega arith) in
-      let next = rw on at (from (i + 1) n (u32At z (88 + 8 * i)) (omega arith)) in
-      rw (le-leb (u32At z (88 + 8 * i + 4)) highestPower (omega arith), and-true, next)
+      let next = rw on at (from (i + 1) n (u32At z (pairStart i)) (omega arith)) in
+      rw (le-leb (u32At z (pairStart i + 4)) highestPower (omega arith), and-true, next)

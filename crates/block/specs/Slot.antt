@@ -11,13 +11,13 @@ use Rattle.quantities.specs.Quantities.{minuteAt, kilowattAt, highestPower}
 use Rattle.rules.specs.declared.Record.{Record}
 use Rattle.rules.specs.Codes.{between, stop, offGrid}
 use Rattle.rules.specs.Records.{fieldsInRange, kindAllows, begun}
-use Rattle.rules.specs.Block.{slotCount, unitMark, zerosAt, unitHead, slotAt, used}
+use Rattle.rules.specs.Block.{pairStart, slotCount, unitMark, zerosAt, unitHead, slotAt, used}
 use Rattle.rules.specs.Whole.{headInRange}
 use Rattle.block.specs.declared.Pair.{Pair}
 
 -- pair j of a slot
 abbrev pub pairAt : List ℕ → ℕ → Pair
-pairAt z j = record { end = minuteAt z (88 + 8 * j); power = kilowattAt z (88 + 8 * j + 4) }
+pairAt z j = record { end = minuteAt z (pairStart j); power = kilowattAt z (pairStart j + 4) }
 
 -- the part ends rise from start to end, and every power is in range
 unfoldable pub pairsRise : List ℕ → ℕ → ℕ → ℕ → ℕ → Bool
@@ -32,7 +32,7 @@ endsRise z at (suc n) start end = ltb start (u32At z at) && endsRise z (at + 8) 
 
 -- no power of the first k pairs is above the bound
 pub record PowersWithin (z : List ℕ) (k bound : ℕ) : Type 0 where
-  pub at : (j : ℕ) → j < k → u32At z (88 + 8 * j + 4) ≤ bound
+  pub at : (j : ℕ) → j < k → u32At z (pairStart j + 4) ≤ bound
 
 -- what is asked of a record in a slot, but for its parts
 unfoldable pub holdsAlone : ℕ → Minute → Record → Bool

@@ -14,6 +14,7 @@ use records::has_begun;
 use records::is_levelled;
 use records::kind_allows;
 use records::within;
+use report::MOST_PARTS;
 use rules::PowerRange;
 use rules::Powers;
 use rules::Record;
@@ -26,10 +27,28 @@ ghost use Prim.Native.Nat.{_+_, _*_, _≤_, _<_};
 ghost use lib.ListN.{length};
 ghost use Rattle.fields.specs.Fields.{u8At, u16At, u32At};
 ghost use Rattle.fields.specs.Lists.{all, series, part};
-ghost use Rattle.rules.specs.Roster.{powersAt, entryOf, entryGood, piece, rosterGood};
-ghost use Rattle.rules.specs.Block.{zeros, zerosAt, unitHead, slotAt, used, recordIn, storedCount};
+ghost use Rattle.rules.specs.Roster.{mostUnits, entrySize, powersAt, entryOf, entryGood, piece, rosterGood};
+ghost use Rattle.rules.specs.Block.{pairsStart, pairStart, slotSize, slotCount, blockSize, zeros, zerosAt, unitHead, slotAt, used, recordIn, storedCount};
 ghost use Rattle.rules.specs.Whole.{recordsApart, slotWhole, slotsApart, blockWhole, registerWhole};
 ghost use Rattle.block.specs.Slot.{pairAt, endsRise, PowersWithin, pairsRise, holdsAlone, headWhole, FreeFrom};
+
+// A block's head, and its slots, each of fields and pairs.
+pub const HEAD_SIZE: usize = 64;
+
+pub const PAIRS_START: usize = 88;
+
+pub const PAIR_SIZE: usize = 8;
+
+pub const SLOT_SIZE: usize = PAIRS_START + PAIR_SIZE * (MOST_PARTS as usize);
+
+pub const SLOT_COUNT: u8 = 8;
+
+pub const BLOCK_SIZE: usize = HEAD_SIZE + SLOT_SIZE * (SLOT_COUNT as usize);
+
+// A roster entry, and the most units of a register.
+pub const ENTRY_SIZE: usize = 28;
+
+pub const MOST_UNITS: usize = 64;
 
 // Where a part in a slot ends, and its power.
 pub struct Pair {
@@ -126,7 +145,7 @@ pub fn unit_head(b: &[u8]) -> UnitHead
 pub fn slot_at<'a>(b: &'a [u8], i: u8) -> &'a [u8]
     ensures { λ r. ⌜ now r ≡ slotAt (now (b .entry)) i ⌝ }
 {
-    slice_at(b, 64 + 888 * (i as usize), 888)
+    slice_at(b, HEAD_SIZE + SLOT_SIZE * (i as usize), SLOT_SIZE)
 }
 
 pub fn is_used(z: &[u8]) -> bool
@@ -172,8 +191,8 @@ fn u32_in(s: &[u8], at: usize) -> u32
 pub fn pair_at(z: &[u8], j: u16) -> Pair
     ensures { λ r. ⌜ r ≡ pairAt (now (z .entry)) j ⌝ }
 {
-    let at = 88 + 8 * (j as usize);
-    if at + 8 <= z.len() {
+    let at = PAIRS_START + PAIR_SIZE * (j as usize);
+    if at + PAIR_SIZE <= z.len() {
         let end = Minute(u32_in(z, at));
         let power = Kilowatt(u32_in(z, at + 4));
         return Pair { end, power };
@@ -203,16 +222,16 @@ pub fn zeros_at(s: &[u8], at: usize, n: usize) -> bool
 // Whether the part ends rise from the period's start to its end, and a number that no power is above. Compared as signed
 // numbers, which takes fewer instructions; a time is below 2 to the 31.
 fn ends_rise(z: &[u8], k: u16, period: Period) -> EndsFound
-    requires { ⌜ 88 + 8 * k ≤ length (now z) ⌝ }
+    requires { ⌜ pairStart k ≤ length (now z) ⌝ }
     requires { ⌜ (period .start .0 < 2147483648) × (period .end .0 < 2147483648) ⌝ }
-    ensures { λ r. ⌜ r .rise ≡ endsRise (now (z .entry)) 88 k (period .start .0) (period .end .0) ⌝ }
+    ensures { λ r. ⌜ r .rise ≡ endsRise (now (z .entry)) pairsStart k (period .start .0) (period .end .0) ⌝ }
     ensures { λ r. ⌜ PowersWithin (now (z .entry)) k (r .bound) ⌝ }
 {
     let mut rise = true;
     let mut bound = 0u32;
     let mut start = fields::i32_of(period.start.0);
     for i in 0..k {
-        let at = 88 + 8 * (i as usize);
+        let at = PAIRS_START + PAIR_SIZE * (i as usize);
         let end = fields::i32_of(u32_in(z, at));
         bound = bound | u32_in(z, at + 4);
         rise = rise & (start < end);
@@ -226,13 +245,13 @@ fn ends_rise(z: &[u8], k: u16, period: Period) -> EndsFound
 
 // The part ends rise from the period's start to its end, and every power is in range.
 fn pairs_rise(z: &[u8], k: u16, period: Period) -> bool
-    requires { ⌜ 88 + 8 * k ≤ length (now z) ⌝ }
-    ensures { λ r. ⌜ r ≡ pairsRise (now (z .entry)) 88 k (period .start .0) (period .end .0) ⌝ }
+    requires { ⌜ pairStart k ≤ length (now z) ⌝ }
+    ensures { λ r. ⌜ r ≡ pairsRise (now (z .entry)) pairsStart k (period .start .0) (period .end .0) ⌝ }
 {
     let mut ok = true;
     let mut start = period.start;
     for i in 0..k {
-        let at = 88 + 8 * (i as usize);
+        let at = PAIRS_START + PAIR_SIZE * (i as usize);
         let end = Minute(u32_in(z, at));
         let power = Kilowatt(u32_in(z, at + 4));
         ok = ok & ((start.0 < end.0) & quantities::is_power(power));
@@ -243,9 +262,9 @@ fn pairs_rise(z: &[u8], k: u16, period: Period) -> bool
 
 // The same by one pass where the powers' bound is a power, as a rule.
 fn pairs_fit(z: &[u8], k: u16, period: Period) -> bool
-    requires { ⌜ 88 + 8 * k ≤ length (now z) ⌝ }
+    requires { ⌜ pairStart k ≤ length (now z) ⌝ }
     requires { ⌜ (period .start .0 < 2147483648) × (period .end .0 < 2147483648) ⌝ }
-    ensures { λ r. ⌜ r ≡ pairsRise (now (z .entry)) 88 k (period .start .0) (period .end .0) ⌝ }
+    ensures { λ r. ⌜ r ≡ pairsRise (now (z .entry)) pairsStart k (period .start .0) (period .end .0) ⌝ }
 {
     let found = ends_rise(z, k, period);
     if found.bound <= 99999999 {
@@ -268,26 +287,26 @@ fn holds_alone(kind: u8, last: Minute, r: Record) -> bool
 }
 
 fn slot_whole(kind: u8, last: Minute, z: &[u8]) -> bool
-    requires { ⌜ length (now z) ≡ 888 ⌝ }
+    requires { ⌜ length (now z) ≡ slotSize ⌝ }
     ensures { λ r. ⌜ r ≡ slotWhole kind last (now (z .entry)) ⌝ }
 {
     if is_used(z) {
         let k = stored_count(z);
-        if 100 < k {
+        if MOST_PARTS < k {
             return false;
         }
         let r = record_in(z);
         if !holds_alone(kind, last, r) {
             return false;
         }
-        let from = 88 + 8 * (k as usize);
+        let from = PAIRS_START + PAIR_SIZE * (k as usize);
         return choose(
             is_levelled(r.record_type),
             (1 <= k) & pairs_fit(z, k, r.period),
             k == 0,
         )
             & zeros_at(z, 38, 50)
-            & zeros_at(z, from, 888 - from);
+            & zeros_at(z, from, SLOT_SIZE - from);
     }
     all_zero(z)
 }
@@ -298,7 +317,7 @@ fn free_from(b: &[u8]) -> u8
 {
     let mut end = 0u8;
     let mut i = 0u8;
-    while i < 8 {
+    while i < SLOT_COUNT {
         let z = slot_at(b, i);
         i += 1;
         if is_used(z) {
@@ -310,14 +329,14 @@ fn free_from(b: &[u8]) -> u8
 
 // The free slots at the end are zeros in one stretch.
 fn slots_whole(kind: u8, last: Minute, b: &[u8], end: u8) -> bool
-    requires { ⌜ length (now b) ≡ 7168 ⌝ }
+    requires { ⌜ length (now b) ≡ blockSize ⌝ }
     requires { ⌜ FreeFrom (now b) end ⌝ }
-    ensures { λ r. ⌜ r ≡ all (λ i. slotWhole kind last (slotAt (now (b .entry)) i)) (series (λ i. i) 0 8) ⌝ }
+    ensures { λ r. ⌜ r ≡ all (λ i. slotWhole kind last (slotAt (now (b .entry)) i)) (series (λ i. i) 0 slotCount) ⌝ }
 {
-    for i in 0..8u8 {
+    for i in 0..SLOT_COUNT {
         if end <= i {
-            let from = 64 + 888 * (i as usize);
-            return zeros_at(b, from, 7168 - from);
+            let from = HEAD_SIZE + SLOT_SIZE * (i as usize);
+            return zeros_at(b, from, BLOCK_SIZE - from);
         }
         if !slot_whole(kind, last, slot_at(b, i)) {
             return false;
@@ -360,10 +379,10 @@ fn slot_apart_below(b: &[u8], i: u8) -> bool
 }
 
 fn slots_apart(b: &[u8]) -> bool
-    ensures { λ a. ⌜ a ≡ all (λ i. all (λ j. slotsApart (slotAt (now (b .entry)) i) (slotAt (now (b .entry)) j)) (series (λ j. j) 0 i)) (series (λ i. i) 0 8) ⌝ }
+    ensures { λ a. ⌜ a ≡ all (λ i. all (λ j. slotsApart (slotAt (now (b .entry)) i) (slotAt (now (b .entry)) j)) (series (λ j. j) 0 i)) (series (λ i. i) 0 slotCount) ⌝ }
 {
     let mut ok = true;
-    for i in 0..8u8 {
+    for i in 0..SLOT_COUNT {
         ok = ok & slot_apart_below(b, i);
     }
     ok
@@ -384,7 +403,7 @@ fn head_whole(unit: u16, b: &[u8]) -> bool
 pub fn block_whole(unit: u16, b: &[u8]) -> bool
     ensures { λ r. ⌜ r ≡ blockWhole unit (now (b .entry)) ⌝ }
 {
-    if b.len() != 7168 {
+    if b.len() != BLOCK_SIZE {
         return false;
     }
     if !head_whole(unit, b) {
@@ -402,11 +421,11 @@ pub fn block_whole(unit: u16, b: &[u8]) -> bool
 }
 
 fn blocks_whole(register: &[u8], n: u16) -> bool
-    requires { ⌜ n ≤ 64 ⌝ }
-    ensures { λ r. ⌜ r ≡ all (λ u. blockWhole u (piece 7168 (now (register .entry)) u)) (series (λ u. u) 1 n) ⌝ }
+    requires { ⌜ n ≤ mostUnits ⌝ }
+    ensures { λ r. ⌜ r ≡ all (λ u. blockWhole u (piece blockSize (now (register .entry)) u)) (series (λ u. u) 1 n) ⌝ }
 {
     for i in 0..n {
-        let b = slice_at(register, 7168 * (i as usize), 7168);
+        let b = slice_at(register, BLOCK_SIZE * (i as usize), BLOCK_SIZE);
         if !block_whole(i + 1, b) {
             return false;
         }
@@ -418,8 +437,8 @@ fn blocks_whole(register: &[u8], n: u16) -> bool
 pub fn register_whole(register: &[u8]) -> bool
     ensures { λ r. ⌜ r ≡ registerWhole (now (register .entry)) ⌝ }
 {
-    let n = register.len() / 7168;
-    if (register.len() % 7168 == 0) & ((1 <= n) & (n <= 64)) {
+    let n = register.len() / BLOCK_SIZE;
+    if (register.len() % BLOCK_SIZE == 0) & ((1 <= n) & (n <= MOST_UNITS)) {
         blocks_whole(register, n as u16)
     } else {
         false
@@ -440,11 +459,11 @@ pub fn entry_good(s: &[u8]) -> bool
 }
 
 fn entries_good(roster: &[u8], n: u16) -> bool
-    requires { ⌜ n ≤ 64 ⌝ }
-    ensures { λ r. ⌜ r ≡ all (λ u. entryGood (piece 28 (now (roster .entry)) u)) (series (λ u. u) 1 n) ⌝ }
+    requires { ⌜ n ≤ mostUnits ⌝ }
+    ensures { λ r. ⌜ r ≡ all (λ u. entryGood (piece entrySize (now (roster .entry)) u)) (series (λ u. u) 1 n) ⌝ }
 {
     for i in 0..n {
-        if !entry_good(slice_at(roster, 28 * (i as usize), 28)) {
+        if !entry_good(slice_at(roster, ENTRY_SIZE * (i as usize), ENTRY_SIZE)) {
             return false;
         }
     }
@@ -455,8 +474,8 @@ fn entries_good(roster: &[u8], n: u16) -> bool
 pub fn roster_good(roster: &[u8]) -> bool
     ensures { λ r. ⌜ r ≡ rosterGood (now (roster .entry)) ⌝ }
 {
-    let n = roster.len() / 28;
-    if (roster.len() % 28 == 0) & ((1 <= n) & (n <= 64)) {
+    let n = roster.len() / ENTRY_SIZE;
+    if (roster.len() % ENTRY_SIZE == 0) & ((1 <= n) & (n <= MOST_UNITS)) {
         entries_good(roster, n as u16)
     } else {
         false

@@ -4,6 +4,7 @@ use lib.Dec.{eqb}
 use Rattle.fields.specs.Lists.{pick}
 use Rattle.rules.specs.Samples.{D}
 use Rattle.rules.specs.Codes.{stop, positiveDerating, forcedWork, event, isLevelled, planned, executed}
+use Rattle.report.specs.Report.{textAfter}
 use Rattle.cases.specs.declared.sent.Sent.{Sent}
 
 -- on unit 1, by owner 7, without a step
@@ -43,4 +44,4 @@ abbrev pub partsSent : Sent → ℕ
 partsSent s = pick (isLevelled (s .«record_type»)) (pick (eqb (s .«step_at») 0) 1 2) 0
 
 abbrev pub lengthSent : Sent → ℕ
-lengthSent s = 50 + 16 * partsSent s
+lengthSent s = textAfter (partsSent s)

@@ -12,7 +12,7 @@ use Rattle.fields.specs.Lists.{pick, and-each, every, part, series}
 use Rattle.fields.proofs.Bools.{every-true, range-true}
 use Rattle.fields.proofs.Slices.{part-lent, lent-back}
 use Rattle.report.specs.declared.Head.{Head}
-use Rattle.report.specs.Report.{headOf, partCount, whole}
+use Rattle.report.specs.Report.{mostParts, headOf, partCount, whole}
 use Rattle.rules.specs.declared.Answer.{Answer}
 use Rattle.rules.specs.After.{slotWritten, cleared, blockAfter, someSlot, warnings}
 use Rattle.rules.specs.Questions.{changesState, leaves, stays}
@@ -56,7 +56,7 @@ module _ (b s : List ℕ) {d : Decision} (decided : d ≡ decisionOf b s) where
       let no-zero : eqb (refusalNumber b s) 0 ≡ false = ap (λ (k : ℕ). eqb k 0) (sym number-is) ∙ ne-eqb (d .number) 0 ne in
       (e ∙ rw (no-zero, number-is), rw no-zero)
 
-  module _ (long : length b ≡ blockSize) (free : FreeSlots b) (few : partCount s ≤ 100) (zero-now : d .number ≡ 0) where
+  module _ (long : length b ≡ blockSize) (free : FreeSlots b) (few : partCount s ≤ mostParts) (zero-now : d .number ≡ 0) where
     accepted : eqb (refusalNumber b s) 0 ≡ true
     accepted = ap (λ (k : ℕ). eqb k 0) (sym number-is) ∙ eq-eqb (d .number) 0 zero-now
 
@@ -127,56 +127,56 @@ module _ (reg s : List ℕ) {h : Head} (e : h ≡ headOf s) where
   owner-same : h .owner ≡ headOf s .owner
   owner-same = ap (λ (h : Head). h .owner) e
 
-  pub owner-asked : {z : List ℕ} {u : UnitHead} → (leb 1 (h .unit) && leb (h .unit) (length reg / 7168)) ≡ true
-      → z ≡ part reg (7168 * (h .unit - 1)) 7168 → u ≡ unitHead z → eqb (u .owner) (h .owner) ≡ question3 reg s
+  pub owner-asked : {z : List ℕ} {u : UnitHead} → (leb 1 (h .unit) && leb (h .unit) (length reg / blockSize)) ≡ true
+      → z ≡ part reg (blockSize * (h .unit - 1)) blockSize → u ≡ unitHead z → eqb (u .owner) (h .owner) ≡ question3 reg s
   unfolding question3 every and-each
   owner-asked {z} {u} t p q =
-      let inside : (leb 1 (headOf s .unit) && leb (headOf s .unit) (length reg / 7168)) ≡ true = rw unit-same at t in
+      let inside : (leb 1 (headOf s .unit) && leb (headOf s .unit) (length reg / blockSize)) ≡ true = rw unit-same at t in
       rw (inside, ap (λ (u : UnitHead). u .owner) q, p, unit-same, owner-same)
 
-  pub no-unit : (leb 1 (h .unit) && leb (h .unit) (length reg / 7168)) ≡ false → false ≡ question3 reg s
+  pub no-unit : (leb 1 (h .unit) && leb (h .unit) (length reg / blockSize)) ≡ false → false ≡ question3 reg s
   unfolding question3 every and-each
   no-unit t =
-      let outside : (leb 1 (headOf s .unit) && leb (headOf s .unit) (length reg / 7168)) ≡ false = rw unit-same at t in
+      let outside : (leb 1 (headOf s .unit) && leb (headOf s .unit) (length reg / blockSize)) ≡ false = rw unit-same at t in
       rw outside
 
 pub record Inside (reg : List ℕ) (unit : ℕ) : Type 0 where
   pub first : 1 ≤ unit
-  pub last : 7168 * unit ≤ length reg
+  pub last : blockSize * unit ≤ length reg
 
 pub inside : (reg s : List ℕ) {u : ℕ} {z : Bool} → u ≡ headOf s .unit → z ≡ question3 reg s → not z ≡ false → Inside reg u
 unfolding question3
 inside reg s {u} {z} e p q =
     let f = every-true _ (sym p ∙ not-false z q) .0 in
-    let r = range-true 1 (length reg / 7168) (headOf s .unit) f in
+    let r = range-true 1 (length reg / blockSize) (headOf s .unit) f in
     let low = r .0 in
     let high = r .1 in
     record { first = omega arith; last = omega arith }
 
 pub lent-length : (reg : List ℕ) (unit : ℕ) → Inside reg unit
-    → length (take (7168 * (unit - 1) + 7168 - 7168 * (unit - 1)) (drop (7168 * (unit - 1)) reg)) ≡ 7168
+    → length (take (blockSize * (unit - 1) + blockSize - blockSize * (unit - 1)) (drop (blockSize * (unit - 1)) reg)) ≡ blockSize
 lent-length reg unit k =
     let a = k .first in
     let b = k .last in
-    let e : 7168 * (unit - 1) + 7168 - 7168 * (unit - 1) ≡ 7168 = omega arith in
-    rw e (length-take-le 7168 (drop (7168 * (unit - 1)) reg) (simp length-drop (omega arith)))
+    let e : blockSize * (unit - 1) + blockSize - blockSize * (unit - 1) ≡ blockSize = omega arith in
+    rw e (length-take-le blockSize (drop (blockSize * (unit - 1)) reg) (simp length-drop (omega arith)))
 
 -- the unit's block as the callee was lent it
 abbrev pub lent : List ℕ → ℕ → List ℕ
-lent reg unit = take (7168 * (unit - 1) + 7168 - 7168 * (unit - 1)) (drop (7168 * (unit - 1)) reg)
+lent reg unit = take (blockSize * (unit - 1) + blockSize - blockSize * (unit - 1)) (drop (blockSize * (unit - 1)) reg)
 
 module _ (reg s : List ℕ) {unit : ℕ} (e : unit ≡ headOf s .unit) where
   pub answered-there : {a : Answer} → a ≡ judge (lent reg unit) s .answer → a ≡ judge (blockAt reg (headOf s .unit)) s .answer
   answered-there p =
       p
-      ∙ ap (λ (b : List ℕ). judge b s .answer) (part-lent reg (7168 * (unit - 1)) 7168)
+      ∙ ap (λ (b : List ℕ). judge b s .answer) (part-lent reg (blockSize * (unit - 1)) blockSize)
       ∙ ap (λ (u : ℕ). judge (blockAt reg u) s .answer) e
 
   pub left-there : {vs : List ℕ} → Inside reg unit → length vs ≡ length (lent reg unit) → vs ≡ judge (lent reg unit) s .after
-      → take (7168 * (unit - 1)) reg ++ (vs ++ drop (7168 * (unit - 1) + 7168 - 7168 * (unit - 1)) (drop (7168 * (unit - 1)) reg))
+      → take (blockSize * (unit - 1)) reg ++ (vs ++ drop (blockSize * (unit - 1) + blockSize - blockSize * (unit - 1)) (drop (blockSize * (unit - 1)) reg))
       ≡ withBlock reg (headOf s .unit) (judge (blockAt reg (headOf s .unit)) s .after)
   left-there {vs} k l p =
       let f = k .first in
       let t = k .last in
-      lent-back (λ (b : List ℕ). judge b s .after) reg (7168 * (unit - 1)) 7168 vs (omega arith) l p
+      lent-back (λ (b : List ℕ). judge b s .after) reg (blockSize * (unit - 1)) blockSize vs (omega arith) l p
       ∙ ap (λ (u : ℕ). withBlock reg u (judge (blockAt reg u) s .after)) e

@@ -1,14 +1,16 @@
 // The desk: set-up, and the answer to a report on the register.
 use after::Plan;
+use block::BLOCK_SIZE;
 use rules::Answer;
 ghost use mathlib.Core.Path.{_≡_};
 ghost use Prim.Native.Nat.{_≤_};
 ghost use lib.ListN.{length};
-ghost use Rattle.report.specs.Report.{partCount};
+ghost use Rattle.report.specs.Report.{mostParts, partCount};
 ghost use Rattle.report.specs.Remark.{remarkIn};
 ghost use Rattle.rules.specs.Judge.{refusal as refusalOf, judge as judged};
 ghost use Rattle.rules.specs.Desk.{setUp, question3, answerTo};
 ghost use Rattle.after.specs.Plan.{FreeSlots};
+ghost use Rattle.rules.specs.Block.{blockSize};
 ghost use Rattle.desk.specs.Packed.{packed, packedRemark};
 
 fn refusal(number: u8) -> Answer
@@ -22,7 +24,7 @@ fn refusal(number: u8) -> Answer
 
 // Questions 4 to 19 on the unit's own block, lent as a part of the register.
 fn judge_block(b: &mut [u8], report: &[u8]) -> Answer
-    requires { ⌜ (length (now b) ≡ 7168) × (partCount (now report) ≤ 100) ⌝ }
+    requires { ⌜ (length (now b) ≡ blockSize) × (partCount (now report) ≤ mostParts) ⌝ }
     requires { ⌜ FreeSlots (now b) ⌝ }
     ensures { λ r. ⌜ r ≡ judged (now (b .entry)) (now (report .entry)) .answer ⌝ }
     ensures { λ _. ⌜ now (b .exit) ≡ judged (now (b .entry)) (now (report .entry)) .after ⌝ }
@@ -51,8 +53,8 @@ fn is_addressed(register: &[u8], report: &[u8]) -> bool
 {
     let h = report::head_of(report);
     let unit = h.unit as usize;
-    if (1 <= unit) & (unit <= register.len() / 7168) {
-        let b = block::slice_at(register, 7168 * (unit - 1), 7168);
+    if (1 <= unit) & (unit <= register.len() / BLOCK_SIZE) {
+        let b = block::slice_at(register, BLOCK_SIZE * (unit - 1), BLOCK_SIZE);
         block::unit_head(b).owner == h.owner
     } else {
         false
@@ -74,8 +76,8 @@ pub fn answer_report(register: &mut [u8], report: &[u8]) -> Answer
         return refusal(3);
     }
     let unit = report::head_of(report).unit as usize;
-    let a = 7168 * (unit - 1);
-    let e = a + 7168;
+    let a = BLOCK_SIZE * (unit - 1);
+    let e = a + BLOCK_SIZE;
     judge_block(&mut register[a..e], report)
 }
 

@@ -19,7 +19,7 @@ use Rattle.rules.specs.declared.UnitHead.{UnitHead}
 use Rattle.rules.specs.Codes.{isLevelled}
 use Rattle.rules.specs.Minutes.{FullRecord, recordsAmong, question17, levelsFit, levelsEvery}
 use Rattle.rules.specs.Records.{sameIdentifier}
-use Rattle.rules.specs.Block.{slotAt, used, recordIn}
+use Rattle.rules.specs.Block.{slotCount, slotAt, used, recordIn}
 use Rattle.rules.specs.Questions.{recordAt, live, rangeOf}
 use Rattle.judge.specs.declared.SlotAnswers.{SlotAnswers}
 use Rattle.judge.specs.Survey.{holderOf, slotAnswers, answersAt, surveyOf, freeAmong}
@@ -53,42 +53,42 @@ module _ (b : List ℕ) (i : ℕ) {z : List ℕ} {u : Bool} (read : z ≡ slotAt
 
 -- a search over the slots that is left at the first hit: none before slot i
 pub record Sought (test : ℕ → Bool) (i : ℕ) : Type 0 where
-  pub most : i ≤ 8
-  pub so-far : seek test 0 8 ≡ seek test i (8 - i)
+  pub most : i ≤ slotCount
+  pub so-far : seek test 0 slotCount ≡ seek test i (slotCount - i)
 
 pub sought-none : (test : ℕ → Bool) → Sought test 0
 sought-none test = record { most = omega arith; so-far = refl }
 
 module _ {test : ℕ → Bool} {i : ℕ} (k : Sought test i) where
-  pub sought-hit : i < 8 → test i ≡ true → i ≡ seek test 0 8
-  sought-hit l e = sym (k .so-far ∙ seek-hit test i 8 l e)
+  pub sought-hit : i < slotCount → test i ≡ true → i ≡ seek test 0 slotCount
+  sought-hit l e = sym (k .so-far ∙ seek-hit test i slotCount l e)
 
-  pub sought-miss : i < 8 → test i ≡ false → Sought test (i + 1)
-  sought-miss l e = record { most = omega arith; so-far = k .so-far ∙ seek-miss test i 8 l e }
+  pub sought-miss : i < slotCount → test i ≡ false → Sought test (i + 1)
+  sought-miss l e = record { most = omega arith; so-far = k .so-far ∙ seek-miss test i slotCount l e }
 
-  pub sought-all : 8 ≤ i → 8 ≡ seek test 0 8
+  pub sought-all : slotCount ≤ i → slotCount ≡ seek test 0 slotCount
   sought-all l =
       let most = k .most in
-      sym (k .so-far ∙ seek-end test i 8 (omega arith))
+      sym (k .so-far ∙ seek-end test i slotCount (omega arith))
 
 abbrev pub isHolder : List ℕ → Record → ℕ → Bool
 isHolder b r i = live b (r .stamp .0) i && sameIdentifier r (recordAt b i)
 
-pub found-holder : (b : List ℕ) (r : Record) {i : ℕ} → i ≡ seek (isHolder b r) 0 8 → i ≡ holderOf b r
+pub found-holder : (b : List ℕ) (r : Record) {i : ℕ} → i ≡ seek (isHolder b r) 0 slotCount → i ≡ holderOf b r
 unfolding holderOf
 found-holder b r e = e
 
-pub found-free : (stays : List Bool) {i : ℕ} → i ≡ seek (λ i. not (getD stays i false)) 0 8 → i ≡ freeAmong stays
+pub found-free : (stays : List Bool) {i : ℕ} → i ≡ seek (λ i. not (getD stays i false)) 0 slotCount → i ≡ freeAmong stays
 unfolding freeAmong
 found-free stays e = e
 
 -- flags that a loop fills, slot by slot
 pub record Filled (f : ℕ → Bool) (flags : List Bool) (i : ℕ) : Type 0 where
-  pub size : length flags ≡ 8
+  pub size : length flags ≡ slotCount
   pub so-far : take i flags ≡ series f 0 i
 
 module _ {f : ℕ → Bool} {flags : List Bool} {i : ℕ} (h : Filled f flags i) where
-  flag-more : {v : Bool} → i < 8 → v ≡ f i → Filled f (set flags i v) (i + 1)
+  flag-more : {v : Bool} → i < slotCount → v ≡ f i → Filled f (set flags i v) (i + 1)
   flag-more {v} l e =
       let size = h .size in
       record {
@@ -96,8 +96,8 @@ module _ {f : ℕ → Bool} {flags : List Bool} {i : ℕ} (h : Filled f flags i)
         so-far = filled-more f flags 0 i (h .so-far) (omega arith) (e ∙ ap f (sym (zero-add i)));
       }
 
-  flag-all : i ≡ 8 → flags ≡ series f 0 8
-  flag-all e = filled-all flags (series f 0 8) 8 (h .size) (rw e at (h .so-far))
+  flag-all : i ≡ slotCount → flags ≡ series f 0 slotCount
+  flag-all e = filled-all flags (series f 0 slotCount) slotCount (h .size) (rw e at (h .so-far))
 
 module _ (b : List ℕ) (h : Head) (slot : ℕ) (changes : Bool) where
   abbrev answer : ℕ → SlotAnswers
@@ -105,20 +105,20 @@ module _ (b : List ℕ) (h : Head) (slot : ℕ) (changes : Bool) where
 
   -- the slots before slot i are asked
   pub record Surveyed (others : List Bool) (closed : Bool) (leaves stays cleared : List Bool) (i : ℕ) : Type 0 where
-    pub most : i ≤ 8
+    pub most : i ≤ slotCount
     pub counted : Filled (λ i. answer i .other) others i
-    pub tested : Tested (λ i. answer i .closed) (λ i. i) 8 closed i
+    pub tested : Tested (λ i. answer i .closed) (λ i. i) slotCount closed i
     pub left : Filled (λ i. answer i .leaves) leaves i
     pub kept : Filled (λ i. answer i .stays) stays i
     pub emptied : Filled (λ i. answer i .cleared) cleared i
 
-  pub surveyed-none : Surveyed (replicate 8 false) true (replicate 8 false) (replicate 8 false) (replicate 8 false) 0
+  pub surveyed-none : Surveyed (replicate slotCount false) true (replicate slotCount false) (replicate slotCount false) (replicate slotCount false) 0
   surveyed-none =
-      let none : (f : ℕ → Bool) → Filled f (replicate 8 false) 0 = λ f. record { size = refl; so-far = filled-none f 0 } in
+      let none : (f : ℕ → Bool) → Filled f (replicate slotCount false) 0 = λ f. record { size = refl; so-far = filled-none f 0 } in
       record { most = omega arith; counted = none _; tested = tested-none; left = none _; kept = none _; emptied = none _ }
 
   pub surveyed-more : {others leaves stays cleared : List Bool} {closed : Bool} {i : ℕ} {a : SlotAnswers}
-      → Surveyed others closed leaves stays cleared i → i < 8 → a ≡ answer i
+      → Surveyed others closed leaves stays cleared i → i < slotCount → a ≡ answer i
       → Surveyed (set others i (a .other)) (closed && a .closed) (set leaves i (a .leaves)) (set stays i (a .stays))
       (set cleared i (a .cleared)) (i + 1)
   surveyed-more k l e = record {
@@ -131,12 +131,12 @@ module _ (b : List ℕ) (h : Head) (slot : ℕ) (changes : Bool) where
   }
 
   pub surveyed-all : {others leaves stays cleared : List Bool} {closed : Bool} {i : ℕ}
-      → Surveyed others closed leaves stays cleared i → 8 ≤ i
+      → Surveyed others closed leaves stays cleared i → slotCount ≤ i
       → record { others = others; closed = closed; leaves = leaves; stays = stays; cleared = cleared } ≡ surveyOf b h slot changes
   unfolding surveyOf
   surveyed-all {others} {leaves} {stays} {cleared} {closed} {i} k l =
       let most = k .most in
-      let e : i ≡ 8 = omega arith in
+      let e : i ≡ slotCount = omega arith in
       rw (
         flag-all (k .counted) e,
         tested-all (k .tested) l,

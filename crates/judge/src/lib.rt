@@ -1,4 +1,5 @@
 // Questions 10 to 19 on a unit's block, the number of the first "no", and what an accepted report does to the slots.
+use block::SLOT_COUNT;
 use levels::Swept;
 use quantities::Minute;
 use records::CHANGE;
@@ -20,7 +21,7 @@ ghost use mathlib.Core.Bool.{true, _&&_};
 ghost use Prim.Native.Nat.{_+_, _≤_};
 ghost use Rattle.fields.specs.Lists.{series};
 ghost use Rattle.rules.specs.Records.{sameIdentifier};
-ghost use Rattle.rules.specs.Block.{slotAt, used, unitHead};
+ghost use Rattle.rules.specs.Block.{slotCount, slotAt, used, unitHead};
 ghost use Rattle.rules.specs.Questions.{rangeOf, recordAt, live, beginsBy, changesBy, hasTransition, question13, question14, mustLeave};
 ghost use Rattle.rules.specs.Minutes.{question17};
 ghost use Rattle.rules.specs.After.{oneStopOneLevelled, warnsOverlap, worth};
@@ -81,12 +82,12 @@ fn holds(b: &[u8], r: Record, i: u8) -> bool
 fn find_holder(b: &[u8], r: Record) -> u8
     ensures { λ i. ⌜ i ≡ holderOf (now (b .entry)) r ⌝ }
 {
-    for i in 0..8u8 {
+    for i in 0..SLOT_COUNT {
         if holds(b, r, i) {
             return i;
         }
     }
-    8
+    SLOT_COUNT
 }
 
 // Question 13.
@@ -116,7 +117,7 @@ fn held_number(last: Minute, h: Head, slot: u8, held: Record) -> u8
     ensures { λ r. ⌜ r ≡ heldNumber last h slot held 0 ⌝ }
 {
     let creates = h.operation == CREATE;
-    let is_held = slot < 8;
+    let is_held = slot < SLOT_COUNT;
     let from_13 = ask(
         h,
         13,
@@ -196,7 +197,7 @@ fn survey_slots(b: &[u8], h: Head, slot: u8, changes: bool) -> Survey
     let mut leaves = [false; 8];
     let mut stays = [false; 8];
     let mut cleared = [false; 8];
-    for i in 0..8u8 {
+    for i in 0..SLOT_COUNT {
         let a = answers_at(b, h, slot, changes, i);
         others[i as usize] = a.other;
         closed = closed & a.closed;
@@ -217,19 +218,19 @@ fn survey_slots(b: &[u8], h: Head, slot: u8, changes: bool) -> Survey
 fn lowest_free(stays: [bool; 8]) -> u8
     ensures { λ r. ⌜ r ≡ freeAmong stays ⌝ }
 {
-    for i in 0..8u8 {
+    for i in 0..SLOT_COUNT {
         if !stays[i as usize] {
             return i;
         }
     }
-    8
+    SLOT_COUNT
 }
 
 fn some_of(flags: [bool; 8]) -> bool
     ensures { λ r. ⌜ r ≡ someOf flags ⌝ }
 {
     let mut none = true;
-    for i in 0..8u8 {
+    for i in 0..SLOT_COUNT {
         none = none & !flags[i as usize];
     }
     !none
@@ -283,7 +284,7 @@ fn slot_written(h: Head, slot: u8, free: u8) -> u8
     records::choose_code(
         (h.operation == CREATE) & !(h.record_type == EVENT),
         free,
-        records::choose_code(h.operation == CHANGE, slot, 8),
+        records::choose_code(h.operation == CHANGE, slot, SLOT_COUNT),
     )
 }
 
@@ -294,7 +295,7 @@ fn refuse(number: u8) -> Decision
     Decision {
         number,
         cleared,
-        written: 8,
+        written: SLOT_COUNT,
         changes: false,
         left: false,
     }
@@ -320,7 +321,7 @@ fn decide_limits(
     let free = lowest_free(stays);
     let minutes = minutes_fit(b, report, h, unit, others);
     let state = !changes | has_transition(unit.row, h);
-    let room = !((h.operation == CREATE) & !(h.record_type == EVENT)) | (free < 8);
+    let room = !((h.operation == CREATE) & !(h.record_type == EVENT)) | (free < SLOT_COUNT);
     let number = limit_number(h, survey.closed, deratings, minutes, state, room);
     if number != 0 {
         return refuse(number);
@@ -379,17 +380,17 @@ fn warns_overlap(after: &[u8], h: Head) -> bool
 {
     let r = records::record_by(h);
     let mut none = true;
-    for i in 0..8u8 {
+    for i in 0..SLOT_COUNT {
         none = none & !overlaps_at(after, r, i);
     }
     !none
 }
 
 fn used_slots(b: &[u8]) -> [bool; 8]
-    ensures { λ r. ⌜ r ≡ series (λ i. used (slotAt (now (b .entry)) i)) 0 8 ⌝ }
+    ensures { λ r. ⌜ r ≡ series (λ i. used (slotAt (now (b .entry)) i)) 0 slotCount ⌝ }
 {
     let mut flags = [false; 8];
-    for i in 0..8u8 {
+    for i in 0..SLOT_COUNT {
         flags[i as usize] = block::is_used(block::slot_at(b, i));
     }
     flags

@@ -23,7 +23,7 @@ use Rattle.levels.specs.declared.Extremes.{Extremes}
 use Rattle.levels.specs.declared.Lane.{Lane}
 use Rattle.levels.specs.declared.SweepResult.{SweepResult}
 use Rattle.levels.specs.Pairs.{pairOf, levelAmongPairs}
-use Rattle.levels.specs.Lanes.{laneIn, lanePair, laneLevel, levelAmongLanes, laneLevels}
+use Rattle.levels.specs.Lanes.{laneCount, laneIn, lanePair, laneLevel, levelAmongLanes, laneLevels}
 use Rattle.levels.specs.Extremes.{Covers, Wider, WiderBy, CoversType, extremeLevels, extremesFit}
 use Rattle.levels.specs.Result.{sweepResult}
 
@@ -80,13 +80,13 @@ module _ (b s : List ℕ) (lanes : List Lane) (type : ℕ) (period : Period) whe
   level i k = laneLevel (laneIn lanes i) (lanePair b s i) type k
 
   pub record Seen (i : ℕ) (e : Extremes) : Type 0 where
-    pub most : i ≤ 9
+    pub most : i ≤ laneCount
     pub before : (j k : ℕ) → j < i → period .start .0 ≤ k → k < period .end .0 → Covers e (level j k)
 
   pub seen-none : {e : Extremes} → Seen 0 e
   seen-none = record { most = omega arith; before = λ j k l. absurd (omega arith) }
 
-  module _ {i : ℕ} {e : Extremes} (h : Seen i e) (l : i < 9) where
+  module _ {i : ℕ} {e : Extremes} (h : Seen i e) (l : i < laneCount) where
     seen-next : {r : Extremes} → Wider e r → ((k : ℕ) → period .start .0 ≤ k → k < period .end .0 → Covers r (level i k))
         → Seen (i + 1) r
     seen-next {r} w own = record { most = omega arith; before = before } where
@@ -142,8 +142,8 @@ module _ (b s : List ℕ) (lanes : List Lane) (type : ℕ) (period : Period) whe
       (λ t. h i (omega arith) (omega arith))
       (λ t. lanes-cover e (i + 1) n k (λ j a b. h j (omega arith) (omega arith)))
 
-  pub seen-all : {i : ℕ} {e : Extremes} → Seen i e → 9 ≤ i → CoversType b s lanes type period e
-  seen-all {i} {e} h l = record { covers = λ k x y. lanes-cover e 0 9 k (λ j a o. h .before j k (omega arith) x y) }
+  pub seen-all : {i : ℕ} {e : Extremes} → Seen i e → laneCount ≤ i → CoversType b s lanes type period e
+  seen-all {i} {e} h l = record { covers = λ k x y. lanes-cover e 0 laneCount k (λ j a o. h .before j k (omega arith) x y) }
 
 -- what fits at the extremes fits between them
 if-there : (a t : Bool) → (a ≡ true → t ≡ true) → (not a || t) ≡ true

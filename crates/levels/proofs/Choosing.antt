@@ -22,7 +22,7 @@ use Rattle.levels.specs.declared.Lane.{Lane}
 use Rattle.levels.specs.declared.LevelSpan.{LevelSpan}
 use Rattle.levels.specs.declared.Swept.{Swept}
 use Rattle.levels.specs.Pairs.{pairOf, levelAmongPairs, Passed}
-use Rattle.levels.specs.Lanes.{noLane, laneAt, laneIn, lanePair, laneLevel, levelAmongLanes, laneLevels, Placed, chosenPair, chosenLevel, Ahead, Held, Chosen, besideOf, spanAt, placeAfter}
+use Rattle.levels.specs.Lanes.{laneCount, noLane, laneAt, laneIn, lanePair, laneLevel, levelAmongLanes, laneLevels, Placed, chosenPair, chosenLevel, Ahead, Held, Chosen, besideOf, spanAt, placeAfter}
 use Rattle.levels.specs.Counted.{sweptRecords}
 use Rattle.levels.specs.Stays.{Stays}
 use Rattle.levels.proofs.Spans.{Sooner}
@@ -54,14 +54,14 @@ pub slot-first : (b : List ℕ) {i : ℕ} {z : List ℕ} → i ≡ 0 → z ≡ s
 slot-first b e q = q ∙ ap (slotAt b) (omega arith)
 
 module _ (b s : List ℕ) (lanes : List Lane) where
-  pub placed-none : {m : ℕ} → Placed b s lanes (replicate 9 0) m
-  placed-none = record { size = refl; at = λ i l. rw (none-passed 9 i) passed-none }
+  pub placed-none : {m : ℕ} → Placed b s lanes (replicate laneCount 0) m
+  placed-none = record { size = refl; at = λ i l. rw (none-passed laneCount i) passed-none }
 
   pub placed-later : {places : List ℕ} {m k : ℕ} → Placed b s lanes places m → m ≤ k → Placed b s lanes places k
   placed-later h l = record { size = h .size; at = λ i o. passed-later (h .at i o) l }
 
   -- lane i, whose slot was read as z
-  module _ {i : ℕ} (o : i < 9) {z : List ℕ} (read : z ≡ slotAt b (i - 1)) {places : List ℕ} {m : ℕ} (h : Placed b s lanes places m)
+  module _ {i : ℕ} (o : i < laneCount) {z : List ℕ} (read : z ≡ slotAt b (i - 1)) {places : List ℕ} {m : ℕ} (h : Placed b s lanes places m)
     where
       pub placed-at : Passed (pairOf s z (eqb i 0)) (laneIn lanes i .count) (getD places i 0) m
       placed-at =
@@ -73,7 +73,7 @@ module _ (b s : List ℕ) (lanes : List Lane) where
           let n = h .size in
           record {
             size = simp length-set (omega arith);
-            at = set-keeps (λ j place. j < 9 → Passed (lanePair b s j) (laneIn lanes j .count) place m) places 0 i place (omega
+            at = set-keeps (λ j place. j < laneCount → Passed (lanePair b s j) (laneIn lanes j .count) place m) places 0 i place (omega
                 arith)
                 (λ _. subst (λ (z : List ℕ). Passed (pairOf s z (eqb i 0)) (laneIn lanes i .count) place m) read p)
                 (λ j ne. h .at j);
@@ -82,24 +82,24 @@ module _ (b s : List ℕ) (lanes : List Lane) where
   -- the lanes from i on
   module _ (type : ℕ) where
     abbrev level : ℕ → ℕ → Level
-    level i k = levelAmongLanes b s (laneIn lanes) type i (9 - i) k
+    level i k = levelAmongLanes b s (laneIn lanes) type i (laneCount - i) k
 
-    on : (i k : ℕ) → i < 9 → level i k ≡ orElse (laneLevel (laneIn lanes i) (lanePair b s i) type k) (level (i + 1) k)
+    on : (i k : ℕ) → i < laneCount → level i k ≡ orElse (laneLevel (laneIn lanes i) (lanePair b s i) type k) (level (i + 1) k)
     unfolding levelAmongLanes
     on i k l =
-        let e : 9 - i ≡ suc (9 - (i + 1)) = omega arith in
+        let e : laneCount - i ≡ suc (laneCount - (i + 1)) = omega arith in
         rw e
 
     -- what is sought, before lane i: up to `until` only the lanes from i on count
     pub record Looked (i m until : ℕ) : Type 0 where
-      pub most : i ≤ 9
+      pub most : i ≤ laneCount
       pub later : m < until
       pub rest : (k : ℕ) → m ≤ k → k < until → level 0 k ≡ level i k
 
     pub looked-none : {m far : ℕ} → m < far → Looked 0 m far
     looked-none o = record { most = omega arith; later = o; rest = λ k a b. refl }
 
-    module _ {i m until : ℕ} (h : Looked i m until) (l : i < 9) where
+    module _ {i m until : ℕ} (h : Looked i m until) (l : i < laneCount) where
       pub looked-past : (laneIn lanes i .«record_type» ≡ type → ⊥) → Looked (i + 1) m until
       unfolding laneLevel pick
       looked-past ne =
@@ -156,7 +156,7 @@ module _ (b s : List ℕ) (lanes : List Lane) where
                   ∙ ap (λ (z : List ℕ). levelAmongPairs (series (pairOf s z (eqb i 0)) 0 (laneIn lanes i .count)) k) read;
             }
 
-    pub looked-all : {i m : ℕ} {until : Minute} {r : Choice} → Looked i m (until .0) → 9 ≤ i → r ≡ record {
+    pub looked-all : {i m : ℕ} {until : Minute} {r : Choice} → Looked i m (until .0) → laneCount ≤ i → r ≡ record {
       there = false;
       lane = 0;
       count = 0;
@@ -165,7 +165,7 @@ module _ (b s : List ℕ) (lanes : List Lane) where
     } → Chosen b s lanes type m r
     unfolding levelAmongLanes chosenLevel pick
     looked-all {i} {m} h l e =
-        let none : 9 - i ≡ 0 = omega arith in
+        let none : laneCount - i ≡ 0 = omega arith in
         subst (λ (r : Choice). Chosen b s lanes type m r) (sym e)
         (record {
           stands = record { later = h .later; ahead = λ t. absurd (false≢true t) };
@@ -220,31 +220,31 @@ module _ (c forced : Choice) where
 
 -- they are those of the records that count
 pub records-levels : (b s : List ℕ) (swept : Swept) (direction : ℕ) {lanes : List Lane}
-    → lanes ≡ series (laneAt b s swept direction) 0 9 → (m : ℕ)
+    → lanes ≡ series (laneAt b s swept direction) 0 laneCount → (m : ℕ)
     → laneLevels b s (laneIn lanes) m ≡ levelsAt (sweptRecords b s (swept .counted) (swept .«with_report»)) direction m
 unfolding laneLevels levelsAt
 records-levels b s swept direction {lanes} e m =
     let same : (type : ℕ)
-    → levelAmongLanes b s (laneIn lanes) type 0 9 m ≡ levelAmong (sweptRecords b s (swept .counted)
+    → levelAmongLanes b s (laneIn lanes) type 0 laneCount m ≡ levelAmong (sweptRecords b s (swept .counted)
     (swept .«with_report»)) type direction m = λ type.
-    levels-same b s (laneIn lanes) (laneAt b s swept direction) type 0 9 m
-    (λ j l. ap (λ (x : List Lane). laneIn x j) e ∙ series-at (laneAt b s swept direction) 0 9 j noLane (omega arith) ∙ ap
+    levels-same b s (laneIn lanes) (laneAt b s swept direction) type 0 laneCount m
+    (λ j l. ap (λ (x : List Lane). laneIn x j) e ∙ series-at (laneAt b s swept direction) 0 laneCount j noLane (omega arith) ∙ ap
     (laneAt b s swept direction) (zero-add j))
     ∙ lanes-level b s swept type direction m in
     rw (same 4, same 2, same 3)
 
 -- the lanes that a loop fills
 pub record Filled (lane : ℕ → Lane) (lanes : List Lane) (i : ℕ) : Type 0 where
-  pub most : i ≤ 9
-  pub size : length lanes ≡ 9
+  pub most : i ≤ laneCount
+  pub size : length lanes ≡ laneCount
   pub before : take i lanes ≡ series lane 0 i
 
 module _ (lane : ℕ → Lane) where
-  pub filled-start : {l : Lane} → Filled lane (replicate 9 l) 0
+  pub filled-start : {l : Lane} → Filled lane (replicate laneCount l) 0
   unfolding series
   filled-start = record { most = omega arith; size = refl; before = refl }
 
-  pub filled-next : {lanes : List Lane} {i : ℕ} {l : Lane} → Filled lane lanes i → i < 9 → l ≡ lane i
+  pub filled-next : {lanes : List Lane} {i : ℕ} {l : Lane} → Filled lane lanes i → i < laneCount → l ≡ lane i
       → Filled lane (set lanes i l) (i + 1)
   filled-next {lanes} {i} h l e =
       let size = h .size in
@@ -254,8 +254,8 @@ module _ (lane : ℕ → Lane) where
         before = filled-more lane lanes 0 i (h .before) (omega arith) (e ∙ ap lane (sym (zero-add i)));
       }
 
-  pub filled-end : {lanes : List Lane} {i : ℕ} → Filled lane lanes i → 9 ≤ i → lanes ≡ series lane 0 9
+  pub filled-end : {lanes : List Lane} {i : ℕ} → Filled lane lanes i → laneCount ≤ i → lanes ≡ series lane 0 laneCount
   filled-end {lanes} {i} h l =
       let most = h .most in
-      let e : i ≡ 9 = omega arith in
-      filled-all lanes _ 9 (h .size) (rw e at (h .before))
+      let e : i ≡ laneCount = omega arith in
+      filled-all lanes _ laneCount (h .size) (rw e at (h .before))

@@ -18,14 +18,14 @@ use Rattle.report.specs.Report.{headOf, partAt, partsOf, partCount}
 use Rattle.rules.specs.declared.Level.{Level}
 use Rattle.rules.specs.declared.Levels.{Levels}
 use Rattle.rules.specs.declared.Record.{Record}
-use Rattle.rules.specs.Block.{slotAt, recordIn, storedCount, pairsFrom, partsIn}
+use Rattle.rules.specs.Block.{pairStart, slotAt, recordIn, storedCount, pairsFrom, partsIn}
 use Rattle.rules.specs.Questions.{recordBy, recordOf, recordAt}
 use Rattle.rules.specs.Minutes.{noLevel, levelIn, FullRecord, levelOf, orElse, levelAmong, recordsAmong, levelsAt}
 use Rattle.block.specs.declared.Pair.{Pair}
 use Rattle.levels.specs.declared.Lane.{Lane}
 use Rattle.levels.specs.declared.Swept.{Swept}
 use Rattle.levels.specs.Pairs.{pairOf, levelAmongPairs}
-use Rattle.levels.specs.Lanes.{noLane, laneOf, reportLane, slotLane, laneAt, laneLevel, levelAmongLanes}
+use Rattle.levels.specs.Lanes.{laneCount, noLane, laneOf, reportLane, slotLane, laneAt, laneLevel, levelAmongLanes}
 use Rattle.levels.specs.Counted.{sweptRecords}
 
 -- the pairs of a report's parts, and of a slot
@@ -36,11 +36,11 @@ report-pairs s z i zero m = refl
 report-pairs s z i (suc n) m = rw (report-pairs s z (i + 1) n m)
 
 slot-pairs : (s z : List ℕ) (i n m : ℕ) (start : Minute)
-    → levelIn (pairsFrom z (88 + 8 * i) n start) m ≡ levelAmongPairs (series (pairOf s z false) i n) m
+    → levelIn (pairsFrom z (pairStart i) n start) m ≡ levelAmongPairs (series (pairOf s z false) i n) m
 unfolding levelIn levelAmongPairs series pairOf pairsFrom pick
 slot-pairs s z i zero m start = refl
 slot-pairs s z i (suc n) m start =
-    let a : 88 + 8 * i + 8 ≡ 88 + 8 * (i + 1) = omega arith in
+    let a : pairStart i + 8 ≡ pairStart (i + 1) = omega arith in
     rw (a, slot-pairs s z (i + 1) n m)
 
 -- the lane of a record that counts, where its direction is asked
@@ -114,7 +114,7 @@ module _ (b s : List ℕ) (swept : Swept) (type direction m : ℕ) where
       by-case false = ap (λ (v : Level). orElse v (levelAmong rest type direction m)) (lane-silent (recordAt b i) _ (storedCount
           (slotAt b i)) type m)
 
-  pub lanes-level : levelAmongLanes b s lane type 0 9 m ≡ levelAmong (sweptRecords b s (swept .counted)
+  pub lanes-level : levelAmongLanes b s lane type 0 laneCount m ≡ levelAmong (sweptRecords b s (swept .counted)
       (swept .«with_report»)) type direction m
   unfolding levelAmongLanes levelAmong sweptRecords laneAt reportLane pick
   lanes-level = rw (slots-lanes 0 8) (by-case (swept .«with_report»)) where

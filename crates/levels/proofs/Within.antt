@@ -16,7 +16,7 @@ use Rattle.rules.specs.declared.Levels.{Levels}
 use Rattle.rules.specs.declared.PowerRange.{PowerRange}
 use Rattle.rules.specs.declared.Record.{Record}
 use Rattle.rules.specs.Codes.{forcedWork, W1, M1, Z1}
-use Rattle.rules.specs.Block.{slotAt, recordIn, storedCount, pairsFrom}
+use Rattle.rules.specs.Block.{pairStart, slotAt, recordIn, storedCount, pairsFrom}
 use Rattle.rules.specs.Questions.{recordAt}
 use Rattle.rules.specs.Minutes.{noLevel, levelIn, FullRecord, levelOf, levelAmong, recordsAmong, levelsAt, someMinute, aboveMax, belowMin, levelsSome}
 use Rattle.block.specs.declared.Pair.{Pair}
@@ -42,11 +42,11 @@ module _ (kind : ℕ) (range : PowerRange) where
   none-within e = absurd (false≢true e)
 
   slot-level : (z : List ℕ) (i n m : ℕ) (start : Minute) → all pair-within (series (pairAt z) i n) ≡ true
-      → Within (levelIn (pairsFrom z (88 + 8 * i) n start) m)
+      → Within (levelIn (pairsFrom z (pairStart i) n start) m)
   unfolding levelIn pairsFrom all series
   slot-level z i zero m start e = none-within
   slot-level z i (suc n) m start e =
-      let a : 88 + 8 * (i + 1) ≡ 88 + 8 * i + 8 = omega arith in
+      let a : pairStart (i + 1) ≡ pairStart i + 8 = omega arith in
       let p = pairAt z i in
       let rest = slot-level z (i + 1) n m (p .end) (and-right (pair-within p) (all pair-within (series (pairAt z) (i + 1) n)) e) in
       pick-elim Within (ltb m (p .end .0))

@@ -12,7 +12,7 @@ use Rattle.rules.specs.Minutes.{levelsFit}
 use Rattle.block.specs.declared.Pair.{Pair}
 use Rattle.levels.specs.declared.Extremes.{Extremes}
 use Rattle.levels.specs.declared.Lane.{Lane}
-use Rattle.levels.specs.Lanes.{laneIn, levelAmongLanes}
+use Rattle.levels.specs.Lanes.{laneCount, laneIn, levelAmongLanes}
 
 -- a level that there is lies between the two; a power that is not there counts as 0
 pub record Covers (e : Extremes) (l : Level) : Type 0 where
@@ -32,7 +32,7 @@ pub record WiderBy (f : ℕ → Pair) (n : ℕ) (e r : Extremes) : Type 0 where
 -- the levels of a type in every minute of a period
 pub record CoversType (b s : List ℕ) (lanes : List Lane) (type : ℕ) (period : Period) (e : Extremes) : Type 0 where
   pub covers : (k : ℕ) → period .start .0 ≤ k → k < period .end .0
-      → Covers e (levelAmongLanes b s (laneIn lanes) type 0 9 k)
+      → Covers e (levelAmongLanes b s (laneIn lanes) type 0 laneCount k)
 
 abbrev pub extremeLevels : Extremes → Kilowatt → Extremes → Extremes → Levels
 extremeLevels f power p n = record {

@@ -13,7 +13,7 @@ use Rattle.rules.specs.declared.Level.{Level}
 use Rattle.rules.specs.declared.Levels.{Levels}
 use Rattle.rules.specs.declared.Record.{Record}
 use Rattle.rules.specs.Codes.{positiveDerating, negativeDerating, forcedWork}
-use Rattle.rules.specs.Block.{slotAt, storedCount}
+use Rattle.rules.specs.Block.{slotCount, slotAt, storedCount}
 use Rattle.rules.specs.Questions.{recordOf, recordAt}
 use Rattle.rules.specs.Minutes.{noLevel, orElse}
 use Rattle.block.specs.declared.Pair.{Pair}
@@ -26,6 +26,10 @@ use Rattle.levels.specs.declared.LevelsSpan.{LevelsSpan}
 use Rattle.levels.specs.declared.Swept.{Swept}
 use Rattle.levels.specs.Pairs.{pairOf, levelAmongPairs, Passed}
 use Rattle.levels.specs.Stays.{Stays}
+
+-- the report's lane and one for each slot
+abbrev pub laneCount : ℕ
+laneCount = slotCount + 1
 
 -- a lane that holds no minute
 abbrev pub noLane : Lane
@@ -65,9 +69,9 @@ levelAmongLanes b s lane type i (suc n) m =
 -- the three levels of all lanes
 unfoldable pub laneLevels : List ℕ → List ℕ → (ℕ → Lane) → ℕ → Levels
 laneLevels b s lane m = record {
-  forced = levelAmongLanes b s lane forcedWork 0 9 m;
-  positive = levelAmongLanes b s lane positiveDerating 0 9 m;
-  negative = levelAmongLanes b s lane negativeDerating 0 9 m;
+  forced = levelAmongLanes b s lane forcedWork 0 laneCount m;
+  positive = levelAmongLanes b s lane positiveDerating 0 laneCount m;
+  negative = levelAmongLanes b s lane negativeDerating 0 laneCount m;
 }
 
 -- lane i of those that code keeps
@@ -82,8 +86,8 @@ pub record Stepped (f : ℕ → Pair) (n m : ℕ) (level : ℕ → Level) (r : L
 
 -- in every lane the pairs before its place have ended
 pub record Placed (b s : List ℕ) (lanes : List Lane) (places : List ℕ) (m : ℕ) : Type 0 where
-  pub size : length places ≡ 9
-  pub at : (i : ℕ) → i < 9 → Passed (lanePair b s i) (laneIn lanes i .count) (getD places i 0) m
+  pub size : length places ≡ laneCount
+  pub at : (i : ℕ) → i < laneCount → Passed (lanePair b s i) (laneIn lanes i .count) (getD places i 0) m
 
 -- the three levels, up to the first change of one
 abbrev pub levelsOf : LevelSpan → LevelSpan → LevelSpan → LevelsSpan
@@ -137,7 +141,7 @@ pub record Standing (b s : List ℕ) (m : ℕ) (c : Choice) : Type 0 where
 
 pub record Chosen (b s : List ℕ) (lanes : List Lane) (type m : ℕ) (c : Choice) : Type 0 where
   pub stands : Standing b s m c
-  pub same : (k : ℕ) → m ≤ k → k < c .until .0 → levelAmongLanes b s (laneIn lanes) type 0 9 k ≡ choiceLevel b s c k
+  pub same : (k : ℕ) → m ≤ k → k < c .until .0 → levelAmongLanes b s (laneIn lanes) type 0 laneCount k ≡ choiceLevel b s c k
 
 -- three choices, of which the forced work's has a lane
 pub record Ready (b s : List ℕ) (cs : Choices) (m : ℕ) : Type 0 where

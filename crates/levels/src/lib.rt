@@ -1,5 +1,6 @@
 // Rule 20 in every minute of a period, by one turn for each change of a level.
 use block::Pair;
+use block::SLOT_COUNT;
 use quantities::Kilowatt;
 use quantities::Minute;
 use quantities::Period;
@@ -21,10 +22,13 @@ ghost use Rattle.rules.specs.Block.{slotAt};
 ghost use Rattle.rules.specs.Minutes.{noLevel, fitsW1M1, fitsZ1, levelsFit, aboveMax, belowMin, levelsEvery};
 ghost use Rattle.levels.specs.Pairs.{pairOf, levelAmongPairs, Passed};
 ghost use Rattle.levels.specs.Counted.{countedRecords, sweptRecords};
-ghost use Rattle.levels.specs.Lanes.{noLane, laneOf, reportLane, slotLane, laneAt, laneIn, laneLevel, laneLevels, levelsOf, Stepped, Placed, Held, Chosen, chosenLevels, choiceLevels, spanAt, placeAfter, AheadAll, besideOf, soonest, Ready};
+ghost use Rattle.levels.specs.Lanes.{laneCount, noLane, laneOf, reportLane, slotLane, laneAt, laneIn, laneLevel, laneLevels, levelsOf, Stepped, Placed, Held, Chosen, chosenLevels, choiceLevels, spanAt, placeAfter, AheadAll, besideOf, soonest, Ready};
 ghost use Rattle.levels.specs.Result.{withSpan, bothFound, foundIn, Ran, sweepResult};
 ghost use Rattle.levels.specs.Extremes.{WiderBy, CoversType, extremesFit};
 ghost use Rattle.levels.specs.Within.{powerWithin, pairsWithin, slotWithin, forcedWithin, levelWarnings};
+
+// The lanes of a sweep: the report's and one for each slot.
+pub const LANE_COUNT: u8 = SLOT_COUNT + 1;
 
 // A level, and a later minute up to which it stays.
 pub struct LevelSpan {
@@ -242,7 +246,7 @@ fn slot_lane(b: &[u8], i: u8, counted: bool, direction: u8) -> Lane
 }
 
 fn lane_at(b: &[u8], report: &[u8], swept: Swept, direction: u8, i: u8) -> Lane
-    requires { ⌜ i < 9 ⌝ }
+    requires { ⌜ i < laneCount ⌝ }
     ensures { λ r. ⌜ r ≡ laneAt (now (b .entry)) (now (report .entry)) swept direction i ⌝ }
 {
     if i == 0 {
@@ -254,11 +258,11 @@ fn lane_at(b: &[u8], report: &[u8], swept: Swept, direction: u8, i: u8) -> Lane
 
 // The lanes of one direction.
 fn lanes_of(b: &[u8], report: &[u8], swept: Swept, direction: u8) -> [Lane; 9]
-    ensures { λ r. ⌜ r ≡ series (laneAt (now (b .entry)) (now (report .entry)) swept direction) 0 9 ⌝ }
+    ensures { λ r. ⌜ r ≡ series (laneAt (now (b .entry)) (now (report .entry)) swept direction) 0 laneCount ⌝ }
 {
     let none = no_lane();
     let mut lanes = [none; 9];
-    for i in 0..9u8 {
+    for i in 0..LANE_COUNT {
         let lane = lane_at(b, report, swept, direction, i);
         lanes[i as usize] = lane;
     }
@@ -314,7 +318,7 @@ fn choose_lane(
 {
     let mut until = Minute(4294967295);
     let mut i = 0u8;
-    while i < 9 {
+    while i < LANE_COUNT {
         let at = i;
         i += 1;
         let lane = lanes[at as usize];
@@ -660,7 +664,7 @@ fn extremes_of(
         highest,
     };
     let mut i = 0u8;
-    while i < 9 {
+    while i < LANE_COUNT {
         let at = i;
         i += 1;
         let lane = lanes[at as usize];
@@ -765,7 +769,7 @@ fn forced_within(b: &[u8], counted: [bool; 8], direction: u8, kind: u8, range: P
     ensures { λ r. ⌜ r ≡ forcedWithin (now (b .entry)) counted direction kind range ⌝ }
 {
     let mut ok = true;
-    for i in 0..8u8 {
+    for i in 0..SLOT_COUNT {
         ok = ok & slot_within(b, i, counted[i as usize], direction, kind, range);
     }
     ok

@@ -10,7 +10,7 @@ use lib.ListN.{length}
 use borrow.Author.Tests.{lt-ltb, le-ltb, leb-true}
 use Rattle.fields.specs.Lists.{pick, put}
 use Rattle.fields.proofs.Bools.{and-left, and-right}
-use Rattle.report.specs.Report.{headOf}
+use Rattle.report.specs.Report.{mostParts, mostText, partsStart, textAfter, headOf}
 use Rattle.rules.specs.declared.Answer.{Answer}
 use Rattle.rules.specs.Desk.{answerTo, answers}
 use Rattle.log.specs.declared.Totals.{Totals}
@@ -108,16 +108,16 @@ logged line so-far s here there same next p all = rw (← same) (all ∙ rw (p .
 
 -- a report's length by its own k and t
 module _ (s : List ℕ) (k t : ℕ) where
-  pub stated-sizes : (leb k 100 && leb t 200) ≡ true → (k ≤ 100) × (t ≤ 200)
-  stated-sizes e = (leb-true k 100 (and-left (leb k 100) (leb t 200) e), leb-true t 200 (and-right (leb k 100) (leb t 200) e))
+  pub stated-sizes : (leb k mostParts && leb t mostText) ≡ true → (k ≤ mostParts) × (t ≤ mostText)
+  stated-sizes e = (leb-true k mostParts (and-left (leb k mostParts) (leb t mostText) e), leb-true t mostText (and-right (leb k mostParts) (leb t mostText) e))
 
   module _ (same-k : k ≡ headOf s .«part_count») (same-t : t ≡ headOf s .«text_length») where
-    pub stated : (leb k 100 && leb t 200) ≡ true → 50 + 16 * k + t ≡ statedLength s
+    pub stated : (leb k mostParts && leb t mostText) ≡ true → textAfter k + t ≡ statedLength s
     unfolding statedLength pick
-    stated e = let f : (leb (headOf s .«part_count») 100 && leb (headOf s .«text_length») 200) ≡ true =
+    stated e = let f : (leb (headOf s .«part_count») mostParts && leb (headOf s .«text_length») mostText) ≡ true =
         rw (same-k, same-t) at e in rw f (rw (same-k, same-t))
 
-    pub not-stated : (leb k 100 && leb t 200) ≡ false → 48 ≡ statedLength s
+    pub not-stated : (leb k mostParts && leb t mostText) ≡ false → partsStart ≡ statedLength s
     unfolding statedLength pick
-    not-stated e = let f : (leb (headOf s .«part_count») 100 && leb (headOf s .«text_length») 200) ≡ false =
+    not-stated e = let f : (leb (headOf s .«part_count») mostParts && leb (headOf s .«text_length») mostText) ≡ false =
         rw (same-k, same-t) at e in rw f

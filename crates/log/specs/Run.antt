@@ -6,7 +6,7 @@ use lib.Dec.{leb, ltb, eqb}
 use lib.ListN.{length, take, drop}
 use Rattle.fields.specs.Fields.{u16At}
 use Rattle.fields.specs.Lists.{pick}
-use Rattle.report.specs.Report.{headOf, whole}
+use Rattle.report.specs.Report.{mostParts, mostText, partsStart, textAfter, headOf, whole}
 use Rattle.rules.specs.declared.Answer.{Answer}
 use Rattle.rules.specs.Block.{blockSize, zeros}
 use Rattle.rules.specs.Roster.{entryMark, entrySize}
@@ -32,8 +32,8 @@ rosterRead input = take (entrySize * entriesRead 8 input) input
 -- a report's length by its own k and t; where one is too large, the head alone is judged, and fails question 2
 unfoldable pub statedLength : List ℕ → ℕ
 statedLength s =
-    pick (leb (headOf s .«part_count») 100 && leb (headOf s .«text_length») 200)
-    (50 + 16 * headOf s .«part_count» + headOf s .«text_length») 48
+    pick (leb (headOf s .«part_count») mostParts && leb (headOf s .«text_length») mostText)
+    (textAfter (headOf s .«part_count») + headOf s .«text_length») partsStart
 
 abbrev pub reportRead : List ℕ → List ℕ
 reportRead input = take (statedLength input) input

@@ -1,6 +1,9 @@
 // The shift log: a report's line and the totals as bytes, what a report adds to the log, and how the input is read.
 // No line is longer than 128 bytes, and none with a remark than 1,024; what a shorter text has no room for is left out.
 use quantities::Minute;
+use report::MOST_PARTS;
+use report::MOST_TEXT;
+use report::PARTS_START;
 use rules::Answer;
 ghost use mathlib.Core.Path.{_≡_};
 ghost use mathlib.Core.Bool.{Bool};
@@ -10,6 +13,7 @@ ghost use lib.ListN.{length};
 ghost use Rattle.fields.specs.Lists.{pick, put};
 ghost use Rattle.calendar.specs.Calendar.{digit as digitOf};
 ghost use Rattle.rules.specs.Desk.{answerTo};
+ghost use Rattle.report.specs.Report.{mostParts, mostText, partsStart, textAfter};
 ghost use Rattle.log.specs.Log.{decimal, space, lineFeed, logHeader, faultLine, unitText, stampText, numberColumn};
 ghost use Rattle.log.specs.Log.{lineText, logLine, totalsLine};
 ghost use Rattle.log.specs.Remarks.{hexDigit, shownByte, shown, remarkColumn, remarkLine, remarksHeader};
@@ -321,13 +325,13 @@ pub fn entry_begins(input: &[u8]) -> bool
 // A report's length by its own k and t.
 pub fn stated_length(head: &[u8]) -> usize
     ensures { λ r. ⌜ r ≡ statedLength (now (head .entry)) ⌝ }
-    ensures { λ r. ⌜ (48 ≤ r) × (r ≤ 1850) ⌝ }
+    ensures { λ r. ⌜ (partsStart ≤ r) × (r ≤ textAfter mostParts + mostText) ⌝ }
 {
     let h = reader::line_head(head);
-    if (h.part_count <= 100) & (h.text_length <= 200) {
-        50 + 16 * (h.part_count as usize) + (h.text_length as usize)
+    if (h.part_count <= MOST_PARTS) & (h.text_length <= MOST_TEXT) {
+        report::text_after(h.part_count) + (h.text_length as usize)
     } else {
-        48
+        PARTS_START
     }
 }
 

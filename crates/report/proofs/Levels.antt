@@ -14,18 +14,18 @@ use Rattle.quantities.specs.declared.Kilowatt.{Kilowatt}
 use Rattle.quantities.specs.declared.Minute.{Minute}
 use Rattle.quantities.specs.Quantities.{minuteAt, sizeOf}
 use Rattle.report.specs.declared.Part.{Part}
-use Rattle.report.specs.Report.{partAt, partLevel}
+use Rattle.report.specs.Report.{partStart, partAt, partLevel}
 use Rattle.report.proofs.Padded.{number-copied}
 
 pub level-read : (s : List ℕ) (i : ℕ) {p : List ℕ} {end : Minute} {bits : ℕ}
-    → p ≡ series (u8At (take (48 + 16 * i + 16 - (48 + 16 * i)) (drop (48 + 16 * i) s))) 0 16 → end ≡ minuteAt p 8
+    → p ≡ series (u8At (take (partStart i + 16 - (partStart i)) (drop (partStart i) s))) 0 16 → end ≡ minuteAt p 8
     → bits ≡ u32At p 12 → bits < 2147483648 → record { end = end; power = record { 0 = bits } } ≡ partLevel s i
 level-read s i {p} {end} {bits} copied e q l =
     let size : bits ≡ natAbs (toZ w32 bits) = sym (ap natAbs (toZ-pos w32 bits l)) in
-    let a : 48 + 16 * i + 4 + 4 ≡ 48 + 16 * i + 8 = omega arith in
-    let there : bits ≡ u32At s (48 + 16 * i + 12) = q ∙ number-copied s i copied 12 (omega arith) in
-    let ends : u32At p 8 ≡ u32At s (48 + 16 * i + 4 + 4) = number-copied s i copied 8 (omega arith) ∙ ap (u32At s) (sym a) in
-    let start : end ≡ record { 0 = u32At s (48 + 16 * i + 4 + 4) } = e ∙ (λ k. record { 0 = ends k }) in
+    let a : partStart i + 4 + 4 ≡ partStart i + 8 = omega arith in
+    let there : bits ≡ u32At s (partStart i + 12) = q ∙ number-copied s i copied 12 (omega arith) in
+    let ends : u32At p 8 ≡ u32At s (partStart i + 4 + 4) = number-copied s i copied 8 (omega arith) ∙ ap (u32At s) (sym a) in
+    let start : end ≡ record { 0 = u32At s (partStart i + 4 + 4) } = e ∙ (λ k. record { 0 = ends k }) in
     λ k. record { end = start k; power = record { 0 = (size ∙ ap (λ (n : ℕ). natAbs (toZ w32 n)) there) k } }
 
 pub level-of-part : (s : List ℕ) (i : ℕ) {p : Part} {k : Kilowatt} → p ≡ partAt s i → k ≡ sizeOf (p .power)

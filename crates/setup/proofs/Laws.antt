@@ -16,8 +16,8 @@ use Rattle.fields.proofs.Bools.{every-true, range-true}
 use Rattle.fields.proofs.Slices.{put-nothing, put-append, put-length, part-length, part-lent, lent-back}
 use Rattle.fields.proofs.Joined.{joined-cut, joined-length}
 use Rattle.rules.specs.declared.RosterEntry.{RosterEntry}
-use Rattle.rules.specs.Roster.{entrySize, entryOf, rosterGood, piecesPass}
-use Rattle.rules.specs.Block.{slotSize, slotCount, blockSize, zeros, headBytes, freshBlock}
+use Rattle.rules.specs.Roster.{mostUnits, entrySize, entryOf, rosterGood, piecesPass}
+use Rattle.rules.specs.Block.{headSize, slotSize, slotCount, blockSize, zeros, headBytes, freshBlock}
 use Rattle.rules.specs.Desk.{units, entryAt, newRegister, setUp}
 use Rattle.setup.specs.Written.{putUnit, putFreshRow, putPowers, refusalOf}
 
@@ -27,7 +27,7 @@ zeros-head n m = sym (replicate-append-replicate n m 0)
 
 -- the writes on zeros, as paper 01's list of bytes
 written : (tail : List ℕ) (unit : ℕ) (e : RosterEntry)
-    → putPowers (putFreshRow (putUnit (zeros 64 ++ tail) unit (e .owner) (e .kind)) (e .row)) (e .powers) ≡ headBytes
+    → putPowers (putFreshRow (putUnit (zeros headSize ++ tail) unit (e .owner) (e .kind)) (e .row)) (e .powers) ≡ headBytes
     (record { unit = unit; owner = e .owner; kind = e .kind; row = e .row; «last_stamp» = e .row .since; powers = e .powers }) ++
     tail
 unfolding putPowers putFreshRow putUnit headBytes put bytesOf zeros
@@ -39,7 +39,7 @@ pub fresh-written : (unit : ℕ) (e : RosterEntry) (first : List ℕ) {a b c d :
     → d ≡ putPowers c (e .powers) → d ≡ freshBlock unit e
 unfolding freshBlock
 fresh-written unit e first {a} {b} {c} {d} long cleared named rowed powered =
-    let zero : a ≡ zeros 64 ++ zeros (slotSize * slotCount) = cleared ∙ ap zeros long ∙ zeros-head 64 (slotSize * slotCount) in
+    let zero : a ≡ zeros headSize ++ zeros (slotSize * slotCount) = cleared ∙ ap zeros long ∙ zeros-head headSize (slotSize * slotCount) in
     rw (powered, rowed, named, zero) (written (zeros (slotSize * slotCount)) unit e)
 
 fresh-length : (unit : ℕ) (e : RosterEntry) → length (freshBlock unit e) ≡ blockSize
@@ -52,7 +52,7 @@ fresh-length unit e =
       row = e .row;
       «last_stamp» = e .row .since;
       powers = e .powers;
-    })) (zeros (slotSize * slotCount)) ∙ ap (λ (n : ℕ). 64 + n)
+    })) (zeros (slotSize * slotCount)) ∙ ap (λ (n : ℕ). headSize + n)
     (length-replicate {A = ℕ} (slotSize * slotCount) 0)
 
 -- the block of a unit of the roster
@@ -117,9 +117,9 @@ module _ (roster : List ℕ) (size : ℕ) {g : Bool} (asked : g ≡ rosterGood r
   unfolding refusalOf pick
   bad-roster e = rw (← asked, not-true g e)
 
-  pub roster-few : not g ≡ false → units roster ≤ 64
+  pub roster-few : not g ≡ false → units roster ≤ mostUnits
   unfolding piecesPass
-  roster-few e = range-true 1 64 (units roster) (every-true _ (sym asked ∙ not-false g e) .1 .0) .1
+  roster-few e = range-true 1 mostUnits (units roster) (every-true _ (sym asked ∙ not-false g e) .1 .0) .1
 
   pub bad-size : not g ≡ false → (size ≡ blockSize * units roster → ⊥) → 21 ≡ refusalOf roster size
   unfolding refusalOf pick
@@ -161,7 +161,7 @@ module _ (roster buffer : List ℕ) {k : ℕ} (asked : k ≡ refusalOf roster (l
           let e : k ≡ 20 = asked ∙ rw p in
           absurd (omega arith)
 
-    pub room-few : units roster ≤ 64
+    pub room-few : units roster ≤ mostUnits
     room-few = roster-few roster 0 (sym (room .good)) refl
 
     pub all-written : {after : List ℕ} → after ≡ joined (fresh roster) 1 (units roster) → Done roster buffer k after

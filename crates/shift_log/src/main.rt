@@ -1,5 +1,7 @@
 // The shift log: roster entries and reports from standard input, the log to standard output; with the argument `remarks`, each
 // report's remark beside its line.
+use block::BLOCK_SIZE;
+use block::ENTRY_SIZE;
 use libc::STDERR_FILENO;
 use libc::STDIN_FILENO;
 use libc::STDOUT_FILENO;
@@ -67,7 +69,7 @@ fn log_input(
         return;
     }
     let length = start.length;
-    let size = 7168 * start.entries;
+    let size = BLOCK_SIZE * start.entries;
     let number = setup::set_up(&input[..length], &mut register[..size]);
     if number != 0 {
         print_fault(text, number);
@@ -133,7 +135,7 @@ fn read_roster(input: &mut [u8]) -> Start
     let mut entries = 0;
     let mut ahead = read_between(input, 0, 2, false);
     while entries < 8 && entry_ahead(input, length, ahead.length) {
-        let rest = read_between(input, length + 2, length + 28, ahead.failed);
+        let rest = read_between(input, length + 2, length + ENTRY_SIZE, ahead.failed);
         length = length + 2 + rest.length;
         entries += 1;
         ahead = read_between(input, length, length + 2, rest.failed);

@@ -2,6 +2,7 @@ use native.Mathlib.Omega.{arith}
 use Prim.Native.Nat.{_/_}
 use lib.ListN.{length}
 use Rattle.fields.proofs.Bools.{range-true}
+use Rattle.rules.specs.Block.{blockSize}
 use Rattle.desk.proofs.Answers.{owner-asked, no-unit}
 use borrow.Author.Needs.{needs}
 use Rattle.desk.proofs.is_addressed.Statement.{statement}
@@ -10,7 +11,7 @@ use Rattle.desk.proofs.is_addressed.Tie as tie
 sub-slice-at : tie.Need-sub-slice-at
 sub-slice-at c = omega (
   arith,
-  range-true 1 (length (c .before .before .before .before .before .args .register .now) / 7168)
+  range-true 1 (length (c .before .before .before .before .before .args .register .now) / blockSize)
       (c .before .before .head-of .result .unit) (c .if1 .taken),
 )
 

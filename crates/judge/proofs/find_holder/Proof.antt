@@ -2,6 +2,7 @@ use borrow.Author.Needs.{needs}
 use native.Mathlib.Omega.{arith}
 use Prim.Native.Nat.{_-_}
 use mathlib.Core.Path.{sym, _∙_}
+use Rattle.rules.specs.Block.{slotCount}
 use Rattle.judge.proofs.Joins.{Sought, isHolder, sought-none, sought-hit, sought-miss, sought-all, found-holder}
 use Rattle.judge.proofs.find_holder.Statement.{statement}
 use Rattle.judge.proofs.find_holder.Tie as tie
@@ -10,7 +11,7 @@ abbrev Inv-loop : tie.InvT-loop
 Inv-loop b r i₀ i = Sought (isHolder b r) i
 
 abbrev μ-loop : tie.MeasureT-loop
-μ-loop b r i₀ i = 8 - i
+μ-loop b r i₀ i = slotCount - i
 
 returns : tie.Need-returns Inv-loop μ-loop
 returns c = found-holder _ _ (sought-hit (c .before .before .before .loop .inv) (c .before .before .loop-test .taken) (sym

@@ -3,6 +3,7 @@ use native.Mathlib.Omega.{arith}
 use Prim.Native.Nat.{_-_}
 use mathlib.Core.Bool.{false, not}
 use lib.ListN.{getD}
+use Rattle.rules.specs.Block.{slotCount}
 use Rattle.judge.proofs.Joins.{Sought, sought-none, sought-hit, sought-miss, sought-all, found-free}
 use Rattle.judge.proofs.lowest_free.Statement.{statement}
 use Rattle.judge.proofs.lowest_free.Tie as tie
@@ -11,7 +12,7 @@ abbrev Inv-loop : tie.InvT-loop
 Inv-loop stays i₀ i = Sought (λ j. not (getD stays j false)) i
 
 abbrev μ-loop : tie.MeasureT-loop
-μ-loop stays i₀ i = 8 - i
+μ-loop stays i₀ i = slotCount - i
 
 returns : tie.Need-returns Inv-loop μ-loop
 returns c = found-free _ (sought-hit (c .before .before .loop .inv) (c .before .loop-test .taken) (c .if1 .taken))

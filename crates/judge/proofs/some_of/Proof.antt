@@ -6,14 +6,15 @@ use mathlib.Core.Bool.{false, not}
 use lib.ListN.{getD}
 use Rattle.fields.proofs.Tests.{Tested, tested-none, tested-more, tested-all}
 use Rattle.rules.specs.After.{someSlot}
+use Rattle.rules.specs.Block.{slotCount}
 use Rattle.judge.proofs.some_of.Statement.{statement}
 use Rattle.judge.proofs.some_of.Tie as tie
 
 abbrev Inv-loop : tie.InvT-loop
-Inv-loop flags none₀ i₀ none i = Tested (λ j. not (getD flags j false)) (λ j. j) 8 none i
+Inv-loop flags none₀ i₀ none i = Tested (λ j. not (getD flags j false)) (λ j. j) slotCount none i
 
 abbrev μ-loop : tie.MeasureT-loop
-μ-loop flags none₀ i₀ none i = 8 - i
+μ-loop flags none₀ i₀ none i = slotCount - i
 
 loop-again : tie.Need-loop-again Inv-loop μ-loop
 loop-again c = tested-more (c .before .loop .inv) (c .loop-test .taken) refl

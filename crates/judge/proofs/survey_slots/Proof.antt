@@ -1,6 +1,7 @@
 use borrow.Author.Needs.{needs}
 use native.Mathlib.Omega.{arith}
 use Prim.Native.Nat.{_-_}
+use Rattle.rules.specs.Block.{slotCount}
 use Rattle.judge.proofs.Joins.{Surveyed, surveyed-none, surveyed-more, surveyed-all}
 use Rattle.judge.proofs.survey_slots.Statement.{statement}
 use Rattle.judge.proofs.survey_slots.Tie as tie
@@ -10,7 +11,7 @@ Inv-loop b h slot changes others₀ closed₀ leaves₀ stays₀ cleared₀ i₀
     Surveyed b h slot changes others closed leaves stays cleared i
 
 abbrev μ-loop : tie.MeasureT-loop
-μ-loop b h slot changes others₀ closed₀ leaves₀ stays₀ cleared₀ i₀ others closed leaves stays cleared i = 8 - i
+μ-loop b h slot changes others₀ closed₀ leaves₀ stays₀ cleared₀ i₀ others closed leaves stays cleared i = slotCount - i
 
 loop-again : tie.Need-loop-again Inv-loop μ-loop
 loop-again c = surveyed-more _ _ _ _ (c .before .before .before .loop .inv) (c .before .before .loop-test .taken)

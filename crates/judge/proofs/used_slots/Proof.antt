@@ -7,15 +7,15 @@ use native.Mathlib.Nat.{zero-add}
 use lib.ListN.{length, take, length-set}
 use Rattle.fields.specs.Lists.{series}
 use Rattle.fields.proofs.Slices.{filled-none, filled-more, filled-all}
-use Rattle.rules.specs.Block.{slotAt, used}
+use Rattle.rules.specs.Block.{slotCount, slotAt, used}
 use Rattle.judge.proofs.used_slots.Statement.{statement}
 use Rattle.judge.proofs.used_slots.Tie as tie
 
 abbrev Inv-loop : tie.InvT-loop
-Inv-loop b flags₀ i₀ flags i = (i ≤ 8) × (length flags ≡ 8) × (take i flags ≡ series (λ j. used (slotAt b j)) 0 i)
+Inv-loop b flags₀ i₀ flags i = (i ≤ slotCount) × (length flags ≡ slotCount) × (take i flags ≡ series (λ j. used (slotAt b j)) 0 i)
 
 abbrev μ-loop : tie.MeasureT-loop
-μ-loop b flags₀ i₀ flags i = 8 - i
+μ-loop b flags₀ i₀ flags i = slotCount - i
 
 loop-again : tie.Need-loop-again Inv-loop μ-loop
 loop-again c = (
@@ -29,8 +29,8 @@ loop-again c = (
 
 returns : tie.Need-returns Inv-loop μ-loop
 returns c =
-    let e : c .before .loop .i ≡ 8 = omega arith in
-    filled-all _ _ 8 (c .before .loop .inv .1) (rw e at (c .before .loop .inv .2))
+    let e : c .before .loop .i ≡ slotCount = omega arith in
+    filled-all _ _ slotCount (c .before .loop .inv .1) (rw e at (c .before .loop .inv .2))
 
 pub used-slots-spec : {M : Type 1} → statement M
 used-slots-spec =

@@ -4,16 +4,17 @@ use Prim.Native.Nat.{_-_}
 use mathlib.Core.Path.{ap}
 use mathlib.Core.Bool.{not}
 use Rattle.fields.proofs.Tests.{Tested, tested-none, tested-more, tested-all}
+use Rattle.rules.specs.Block.{slotCount}
 use Rattle.judge.specs.Warned.{overlapAt}
 use Rattle.judge.proofs.Warnings.{warns-join}
 use Rattle.judge.proofs.warns_overlap.Statement.{statement}
 use Rattle.judge.proofs.warns_overlap.Tie as tie
 
 abbrev Inv-loop : tie.InvT-loop
-Inv-loop after r none₀ i₀ none i = Tested (λ j. not (overlapAt after r j)) (λ j. j) 8 none i
+Inv-loop after r none₀ i₀ none i = Tested (λ j. not (overlapAt after r j)) (λ j. j) slotCount none i
 
 abbrev μ-loop : tie.MeasureT-loop
-μ-loop after r none₀ i₀ none i = 8 - i
+μ-loop after r none₀ i₀ none i = slotCount - i
 
 loop-again : tie.Need-loop-again Inv-loop μ-loop
 loop-again c = tested-more (c .before .before .loop .inv) (c .before .loop-test .taken) (ap not (c .overlaps-at .ensures))

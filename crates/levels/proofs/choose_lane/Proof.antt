@@ -1,7 +1,7 @@
 use borrow.Author.Needs.{needs}
 use native.Mathlib.Omega.{arith}
 use Prim.Native.Nat.{_-_}
-use Rattle.levels.specs.Lanes.{Placed}
+use Rattle.levels.specs.Lanes.{laneCount, Placed}
 use Rattle.levels.proofs.Spans.{sooner}
 use Rattle.levels.proofs.Choosing.{Looked, looked-none, looked-past, looked-miss, looked-hit, looked-all, placed-at, placed-set}
 use Rattle.levels.proofs.choose_lane.Statement.{statement}
@@ -12,7 +12,7 @@ Inv-loop b report places₀ record-type m lanes until₀ i₀ places until i = L
     (until .0) × Placed b report lanes places (m .0)
 
 abbrev μ-loop : tie.MeasureT-loop
-μ-loop b report places₀ record-type m lanes until₀ i₀ places until i = 9 - i
+μ-loop b report places₀ record-type m lanes until₀ i₀ places until i = laneCount - i
 
 loop-holds : tie.Need-loop-holds Inv-loop μ-loop
 loop-holds c = (looked-none _ _ _ _ (c .before .before .pre .0), c .before .before .pre .1)

@@ -1,6 +1,7 @@
 use borrow.Author.Needs.{needs}
 use native.Mathlib.Omega.{arith}
 use Prim.Native.Nat.{_-_}
+use Rattle.levels.specs.Lanes.{laneCount}
 use Rattle.levels.proofs.Bounds.{Seen, seen-none, seen-more, seen-past, seen-all}
 use Rattle.levels.proofs.extremes_of.Statement.{statement}
 use Rattle.levels.proofs.extremes_of.Tie as tie
@@ -9,7 +10,7 @@ abbrev Inv-loop : tie.InvT-loop
 Inv-loop b report record-type period lanes e₀ i₀ e i = Seen b report lanes record-type period i e
 
 abbrev μ-loop : tie.MeasureT-loop
-μ-loop b report record-type period lanes e₀ i₀ e i = 9 - i
+μ-loop b report record-type period lanes e₀ i₀ e i = laneCount - i
 
 loop-again : tie.Need-loop-again Inv-loop μ-loop
 loop-again c = seen-more _ _ _ _ _ (c .before .before .before .before .before .before .before .loop .inv) (c .before .before

@@ -1,7 +1,7 @@
 use borrow.Author.Needs.{needs}
 use native.Mathlib.Omega.{arith}
 use Prim.Native.Nat.{_-_}
-use Rattle.levels.specs.Lanes.{laneAt}
+use Rattle.levels.specs.Lanes.{laneCount, laneAt}
 use Rattle.levels.proofs.Choosing.{Filled, filled-start, filled-next, filled-end}
 use Rattle.levels.proofs.lanes_of.Statement.{statement}
 use Rattle.levels.proofs.lanes_of.Tie as tie
@@ -10,7 +10,7 @@ abbrev Inv-loop : tie.InvT-loop
 Inv-loop b report swept direction lanes₀ i₀ lanes i = Filled (laneAt b report swept direction) lanes i
 
 abbrev μ-loop : tie.MeasureT-loop
-μ-loop b report swept direction lanes₀ i₀ lanes i = 9 - i
+μ-loop b report swept direction lanes₀ i₀ lanes i = laneCount - i
 
 loop-again : tie.Need-loop-again Inv-loop μ-loop
 loop-again c = filled-next _ (c .before .before .loop .inv) (c .before .loop-test .taken) (c .lane-at .ensures)

@@ -13,9 +13,7 @@ returns-2 c =
 
 returns-3 : tie.Need-returns-3
 returns-3 c =
-    let if = c .before .before .before in
-    some-text _ _ (if .before .is-whole .ensures) (if .if1 .left) _ (c .before .before .u16-at .ensures) (c .before .if2 .left) _
-    (c .u16-at2 .ensures)
+    some-text _ _ (c .before .before .before .before .before .is-whole .ensures) (c .before .before .before .before .if1 .left) _ (c .before .before .before .u16-at .ensures) (c .before .before .if2 .left) (c .before .u16-at2 .ensures) (c .text-after .ensures .0)
 
 pub remark-place-spec : {M : Type 1} → statement M
 remark-place-spec =
@@ -27,7 +25,5 @@ remark-place-spec =
     (λ c. search needs)
     returns-2
     (λ c κs. search needs)
-    (λ c. search needs)
-    (λ c. search needs)
-    (λ c. search needs)
+    (λ c κs. search needs)
     returns-3)
