@@ -188,7 +188,7 @@ fn length_of(s: Sent) -> usize
     ensures { λ r. ⌜ (50 ≤ r) × (r ≤ 82) ⌝ }
     ensures { λ r. ⌜ r ≡ lengthSent s ⌝ }
 {
-    50 + 16 * (part_count(s) as usize)
+    report::PARTS_START + report::PART_SIZE * (part_count(s) as usize) + 2
 }
 
 // Puts the report's bytes; how many they are.
