@@ -109,7 +109,11 @@ logged line so-far s here there same next p all = rw (← same) (all ∙ rw (p .
 -- a report's length by its own k and t
 module _ (s : List ℕ) (k t : ℕ) where
   pub stated-sizes : (leb k mostParts && leb t mostText) ≡ true → (k ≤ mostParts) × (t ≤ mostText)
-  stated-sizes e = (leb-true k mostParts (and-left (leb k mostParts) (leb t mostText) e), leb-true t mostText (and-right (leb k mostParts) (leb t mostText) e))
+  stated-sizes e = (
+    leb-true k mostParts (and-left (leb k mostParts) (leb t mostText) e),
+    leb-true t mostText
+        (and-right (leb k mostParts) (leb t mostText) e),
+  )
 
   module _ (same-k : k ≡ headOf s .«part_count») (same-t : t ≡ headOf s .«text_length») where
     pub stated : (leb k mostParts && leb t mostText) ≡ true → textAfter k + t ≡ statedLength s

@@ -3,6 +3,7 @@
 use quantities::Minute;
 use report::MOST_PARTS;
 use report::MOST_TEXT;
+use report::PART_SIZE;
 use report::PARTS_START;
 use rules::Answer;
 ghost use mathlib.Core.Path.{_≡_};
@@ -328,8 +329,9 @@ pub fn stated_length(head: &[u8]) -> usize
     ensures { λ r. ⌜ (partsStart ≤ r) × (r ≤ textAfter mostParts + mostText) ⌝ }
 {
     let h = reader::line_head(head);
-    if (h.part_count <= MOST_PARTS) & (h.text_length <= MOST_TEXT) {
-        report::text_after(h.part_count) + (h.text_length as usize)
+    if (h.part_count <= MOST_PARTS as u32) & (h.text_length <= MOST_TEXT as u32) {
+        let text = PARTS_START + PART_SIZE * (h.part_count as usize) + 2;
+        text + (h.text_length as usize)
     } else {
         PARTS_START
     }

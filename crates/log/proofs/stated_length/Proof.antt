@@ -7,34 +7,22 @@ use borrow.Author.Needs.{needs}
 use Rattle.log.proofs.stated_length.Statement.{statement}
 use Rattle.log.proofs.stated_length.Tie as tie
 
-cast-result-2 : tie.Need-cast-result-2
-cast-result-2 c =
-    let h = c .before .before .before .before .before .line-head .result in
-    let sizes = stated-sizes [] (h .«part_count») (h .«text_length») (c .before .before .if1 .taken) in
-    omega (arith, sizes .1)
-
-add-result-2 : tie.Need-add-result-2
-add-result-2 c =
-    let h = c .before .before .before .before .before .line-head .result in
-    let sizes = stated-sizes [] (h .«part_count») (h .«text_length») (c .before .before .if1 .taken) in
-    omega (arith, sizes .0, sizes .1)
-
 returns : tie.Need-returns
 returns c =
-    let h = c .before .before .before .before .before .line-head .result in
-    let sizes = stated-sizes [] (h .«part_count») (h .«text_length») (c .before .before .if1 .taken) in
-    let if = c .before .before in
-    let head = if .before .before .before .line-head .ensures in (
-      stated _ _ _ (ap (λ (h : LineHead). h .«part_count») head) (ap (λ (h : LineHead). h .«text_length») head) (if .if1 .taken),
+    let sizes = stated-sizes [] ((c .before .before .before .before .before .line-head .result) .«part_count»)
+    ((c .before .before .before .before .before .line-head .result) .«text_length») (c .before .before .if1 .taken) in (
+      stated _ _ _ (ap (λ (h : LineHead). h .«part_count») (c .before .before .before .before .before .line-head .ensures))
+          (ap (λ (h : LineHead). h .«text_length») (c .before .before .before .before .before .line-head .ensures))
+          (c .before .before .if1 .taken),
       (omega arith, omega (arith, sizes .0, sizes .1)),
     )
 
 returns-2 : tie.Need-returns-2
-returns-2 c =
-    let head = c .before .before .before .line-head .ensures in (
-      not-stated _ _ _ (ap (λ (h : LineHead). h .«part_count») head) (ap (λ (h : LineHead). h .«text_length») head) (c .if1 .left),
-      (omega arith, omega arith),
-    )
+returns-2 c = (
+  not-stated _ _ _ (ap (λ (h : LineHead). h .«part_count») (c .before .before .before .line-head .ensures))
+      (ap (λ (h : LineHead). h .«text_length») (c .before .before .before .line-head .ensures)) (c .if1 .left),
+  (omega arith, omega arith),
+)
 
 pub stated-length-spec : {M : Type 1} → statement M
 stated-length-spec =
@@ -44,7 +32,10 @@ stated-length-spec =
     (λ c. search needs)
     (λ c. search needs)
     (λ c. search needs)
-    cast-result-2
-    add-result-2
+    (λ c. search needs)
+    (λ c. search needs)
+    (λ c. search needs)
+    (λ c. search needs)
+    (λ c. search needs)
     returns
     returns-2)
