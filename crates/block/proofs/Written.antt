@@ -5,7 +5,7 @@ use mathlib.Core.List.{List, [], _∷_, _++_}
 use native.Mathlib.Omega.{arith}
 use native.Mathlib.Numerals.{add-one}
 use lib.ListN.{length, getD, take}
-use lib.Seq.{take-suc}
+use lib.Seq.{take-suc, length-take-le}
 use Rattle.fields.specs.Fields.{bytesOf}
 use Rattle.fields.specs.Lists.{put}
 use Rattle.fields.proofs.Numbers.{bytes-length}
@@ -51,9 +51,6 @@ pub bytes-next : (z : List ℕ) (at j : ℕ) (vs : List ℕ) {y x : List ℕ} {v
 bytes-next z at j vs {y} {x} {v} l e f g =
     g ∙ rw (e, f)
     (sym (ap (λ (k : ℕ). put z at (take k vs)) (add-one j)
-    ∙ ap (put z at) (take-suc vs j l)
+    ∙ ap (put z at) (take-suc vs j 0 l)
     ∙ put-append (take j vs) (getD vs j 0 ∷ []) z at
-    ∙ ap (λ (k : ℕ). put (put z at (take j vs)) (at + k) (getD vs j 0 ∷ [])) (take-long vs j l)))
-  where
-    take-long : (vs : List ℕ) (j : ℕ) → j < length vs → length (take j vs) ≡ j
-    take-long vs j l = ?
+    ∙ ap (λ (k : ℕ). put (put z at (take j vs)) (at + k) (getD vs j 0 ∷ [])) (length-take-le j vs (omega arith))))
