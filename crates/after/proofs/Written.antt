@@ -16,16 +16,19 @@ use Rattle.quantities.specs.declared.Kilowatt.{Kilowatt}
 use Rattle.quantities.specs.Quantities.{sizeOf}
 use Rattle.report.specs.declared.Head.{Head}
 use Rattle.report.specs.declared.Part.{Part}
-use Rattle.report.specs.Report.{mostParts, headOf, partAt, partsOf, partCount}
+use Rattle.report.specs.declared.PartLevel.{PartLevel}
+use Rattle.report.specs.Report.{mostParts, headOf, partAt, partsOf, partCount, partLevel}
+use Rattle.rules.specs.declared.Record.{Record}
 use Rattle.rules.specs.declared.Row.{Row}
 use Rattle.rules.specs.declared.UnitHead.{UnitHead}
 use Rattle.rules.specs.Block.{pairsStart, pairSize, pairStart, unitHead, slotMark, slotSize, zeros}
-use Rattle.rules.specs.Questions.{recordOf, kilowatts}
+use Rattle.rules.specs.Questions.{recordOf, kilowatts, recordBy}
 use Rattle.rules.specs.After.{pairBytes, slotBytes, putRow}
 use Rattle.rules.proofs.Slots.{pairs-length}
 use Rattle.row.specs.declared.RowStep.{RowStep}
 use Rattle.row.specs.Step.{stepOf}
-use Rattle.after.specs.Plan.{codesBytes, timesBytes, pairOf, slotMade, rowPlanned, headMade}
+use Rattle.block.specs.Codec.{codesBytes, timesBytes, putRecord, pairBytesOf, putLastStamp}
+use Rattle.after.specs.Plan.{slotMade, rowPlanned, headMade}
 
 drop-zeros : (m n : ℕ) → drop m (zeros n) ≡ zeros (n - m)
 unfolding zeros
@@ -44,63 +47,21 @@ unfolding series zeros
 series-zeros at zero = refl
 series-zeros at (suc n) = ap (λ (l : List ℕ). 0 ∷ l) (series-zeros (at + 1) n)
 
--- the puts of one group as one put
-pub codes-put : (z : List ℕ) (h : Head)
-    → put (put (put (put (put (put z 0 (bytesOf 2 slotMark)) 2 (h .«record_type» ∷ [])) 3 (h .direction ∷ [])) 4
-    (h .qualification ∷ [])) 5 (h .«start_mark» ∷ [])) 6 (bytesOf 2 (h .ordinal)) ≡ put z 0 (codesBytes h)
-unfolding put bytesOf codesBytes
-codes-put z h = refl
-
-pub times-put : (z : List ℕ) (h : Head)
-    → put (put (put (put z 24 (bytesOf 4 (h .stamp .0))) 28 (bytesOf 4 (h .period .start .0))) 32
-    (bytesOf 4 (h .period .end .0))) 36 (bytesOf 2 (h .«part_count»)) ≡ put z 24 (timesBytes h)
-unfolding put bytesOf timesBytes
-times-put z h = refl
-
-row-put : (z : List ℕ) (row : Row)
-    → put (put (put z 7 (row .state ∷ [])) 8 (row .qualification ∷ [])) 12 (bytesOf 4 (row .since .0)) ≡ putRow z row
-unfolding put bytesOf putRow
-row-put z row = refl
-
-pub row-written : (z : List ℕ) (row : Row) {x y w : List ℕ} → x ≡ put z 7 (row .state ∷ [])
-    → y ≡ put x 8 (row .qualification ∷ []) → w ≡ put y 12 (bytesOf 4 (row .since .0)) → w ≡ putRow z row
-row-written z row {x} {y} {w} e f g = g ∙ rw (f, e) (row-put z row)
-
 pub head-written : (z : List ℕ) (changes : Bool) (row : Row) (stamp : ℕ) {x y : List ℕ} → x ≡ pick changes (putRow z row) z
-    → y ≡ put x 16 (bytesOf 4 stamp) → y ≡ headMade z changes row stamp
-unfolding headMade
-head-written z changes row stamp e f = f ∙ ap (λ (l : List ℕ). put l 16 (bytesOf 4 stamp)) e
-
-pair-put : (z : List ℕ) (at : ℕ) (p : Part)
-    → put (put z at (bytesOf 4 (p .period .end .0))) (at + 4) (bytesOf 4 (kilowatts p)) ≡ put z at (pairOf p)
-unfolding pairOf
-pair-put z at p =
-    let e = bytes-length 4 (p .period .end .0) in
-    sym (put-append (bytesOf 4 (p .period .end .0)) (bytesOf 4 (kilowatts p)) z at
-    ∙ ap (λ (k : ℕ). put (put z at (bytesOf 4 (p .period .end .0))) (at + k) (bytesOf 4 (kilowatts p))) e)
-
-pub pair-made : (z : List ℕ) (at : ℕ) (p : Part) {y x : List ℕ} {k : Kilowatt} → y ≡ put z at (bytesOf 4 (p .period .end .0))
-    → k ≡ sizeOf (p .power) → x ≡ put y (at + 4) (bytesOf 4 (k .0)) → x ≡ put z at (pairOf p)
-pair-made z at p {y} {x} {k} e f g = g ∙ rw (e, f) (pair-put z at p)
+    → y ≡ putLastStamp x stamp → y ≡ headMade z changes row stamp
+unfolding headMade putLastStamp
+head-written z changes row stamp e f = f ∙ ap (λ (l : List ℕ). putLastStamp l stamp) e
 
 pub row-made : (b s : List ℕ) {u : UnitHead} {h : Head} {r : RowStep} → u ≡ unitHead b → h ≡ headOf s → r ≡ stepOf (u .row) h
     → r .row ≡ rowPlanned b s
 row-made b s {u} {h} {r} e f g = ap (λ (x : RowStep). x .row) g ∙ rw (e, f) refl
 
--- one byte more, one pair more
-bytes-turn : (z : List ℕ) (at from j : ℕ) (s : List ℕ)
-    → put (put z at (series (u8At s) from j)) (at + j) (u8At s (from + j) ∷ []) ≡ put z at (series (u8At s) from (j + 1))
-bytes-turn z at from j s =
-    sym (ap (put z at) (series-snoc (u8At s) from j)
-    ∙ put-append (series (u8At s) from j) (u8At s (from + j) ∷ []) z at
-    ∙ ap (λ (k : ℕ). put (put z at (series (u8At s) from j)) (at + k) (u8At s (from + j) ∷ [])) (series-length (u8At s) from j))
-
-pub bytes-next : (z : List ℕ) (at from j : ℕ) (s : List ℕ) {y x : List ℕ} {v : ℕ} → y ≡ put z at (series (u8At s) from j)
-    → v ≡ u8At s (from + j) → x ≡ put y (at + j) (v ∷ []) → x ≡ put z at (series (u8At s) from (j + 1))
-bytes-next z at from j s {y} {x} {v} e f g = g ∙ rw (e, f) (bytes-turn z at from j s)
+-- one pair more
+abbrev pairOf : Part → List ℕ
+pairOf p = bytesOf 4 (p .period .end .0) ++ bytesOf 4 (kilowatts p)
 
 pairs-snoc : (ps : List Part) (p : Part) → pairBytes (ps ++ (p ∷ [])) ≡ pairBytes ps ++ pairOf p
-unfolding pairBytes pairOf
+unfolding pairBytes
 pairs-snoc [] p = append-nil _
 pairs-snoc (q ∷ ps) p = rw (pairs-snoc ps p)
     (sym (append-assoc (bytesOf 4 (q .period .end .0) ++ bytesOf 4 (kilowatts q)) (pairBytes ps) _))
@@ -117,17 +78,19 @@ pairs-turn z j s =
     ∙ put-append (pairBytes ps) (pairOf (partAt s j)) z pairsStart
     ∙ ap (λ (n : ℕ). put (put z pairsStart (pairBytes ps)) (pairsStart + n) (pairOf (partAt s j))) k)
 
-pub pairs-next : (z : List ℕ) (j : ℕ) (s : List ℕ) {y x : List ℕ} {p : Part} → y ≡ put z pairsStart (pairBytes (series (partAt s) 0 j))
-    → p ≡ partAt s j → x ≡ put y (pairStart j) (pairOf p) → x ≡ put z pairsStart (pairBytes (series (partAt s) 0 (j + 1)))
-pairs-next z j s {y} {x} {p} e f g = g ∙ rw (e, f) (pairs-turn z j s)
+pub pairs-next : (z : List ℕ) (j : ℕ) (s : List ℕ) {y x : List ℕ} {p : PartLevel}
+    → y ≡ put z pairsStart (pairBytes (series (partAt s) 0 j)) → p ≡ partLevel s j
+    → x ≡ put y (pairStart j) (pairBytesOf (record { end = p .end; power = p .power }))
+    → x ≡ put z pairsStart (pairBytes (series (partAt s) 0 (j + 1)))
+unfolding pairBytesOf
+pairs-next z j s e f g = g ∙ rw (e, f) (pairs-turn z j s)
 
--- a slot's first 88 bytes
+-- a slot's bytes before its pairs
 unfoldable front : List ℕ → List ℕ
-front s = codesBytes (headOf s) ++ series (u8At s) 16 16 ++ timesBytes (headOf s) ++ zeros 50
+front s = codesBytes (recordOf s) ++ series (u8At s) 16 16 ++ timesBytes (recordOf s) (partCount s) ++ zeros 50
 
-front-put : (s : List ℕ) → put (put (put (zeros slotSize) 0 (codesBytes (headOf s))) 8 (series (u8At s) 16 16)) 24
-    (timesBytes (headOf s)) ≡ front s ++ zeros (pairSize * mostParts)
-unfolding front put zeros bytesOf series codesBytes timesBytes
+front-put : (s : List ℕ) → putRecord (zeros slotSize) (recordOf s) (partCount s) ≡ front s ++ zeros (pairSize * mostParts)
+unfolding front putRecord put zeros bytesOf series codesBytes timesBytes
 front-put s = refl
 
 front-length : (s : List ℕ) → length (front s) ≡ pairsStart
@@ -156,24 +119,23 @@ unfolding front zeros bytesOf series codesBytes timesBytes slotBytes
 slot-front s = rw (series-length (partAt s) 0 (partCount s))
 
 slot-put : (s : List ℕ) → partCount s ≤ mostParts
-    → put (put (put (put (zeros slotSize) 0 (codesBytes (headOf s))) 8 (series (u8At s) 16 16)) 24 (timesBytes (headOf s))) pairsStart
-    (pairBytes (partsOf s)) ≡ slotBytes (recordOf s) (partsOf s)
+    → put (putRecord (zeros slotSize) (recordOf s) (partCount s)) pairsStart (pairBytes (partsOf s))
+    ≡ slotBytes (recordOf s) (partsOf s)
 slot-put s few =
     let n : length (partsOf s) ≡ partCount s = series-length (partAt s) 0 (partCount s) in
-    let k : length (pairBytes (partsOf s)) ≡ 8 * length (partsOf s) = pairs-length (partsOf s) in
+    let k : length (pairBytes (partsOf s)) ≡ pairSize * length (partsOf s) = pairs-length (partsOf s) in
     let r : pairSize * mostParts - length (pairBytes (partsOf s)) ≡ slotSize - pairStart (length (partsOf s)) = omega arith in
     ap (λ (z : List ℕ). put z pairsStart (pairBytes (partsOf s))) (front-put s)
     ∙ blank-put (front s) (pairBytes (partsOf s)) pairsStart (pairSize * mostParts) (front-length s) (omega arith)
     ∙ ap (λ (m : ℕ). front s ++ pairBytes (partsOf s) ++ zeros m) r
     ∙ slot-front s
 
--- a slot written by five calls
-pub slot-written : (s z : List ℕ) {a b c d e : List ℕ} {h : Head} → h ≡ headOf s → a ≡ zeros (length z)
-    → b ≡ put a 0 (codesBytes h) → c ≡ put b 8 (series (u8At s) 16 16) → d ≡ put c 24 (timesBytes h)
+-- a slot cleared, its record put, and its pairs
+pub slot-written : (s z : List ℕ) {a d e : List ℕ} {h : Head} {r : Record} → h ≡ headOf s → a ≡ zeros (length z)
+    → r ≡ recordBy h → d ≡ putRecord a r (h .«part_count»)
     → e ≡ put d pairsStart (pairBytes (series (partAt s) 0 (h .«part_count»))) → length z ≡ slotSize → partCount s ≤ mostParts
     → e ≡ slotBytes (recordOf s) (partsOf s)
-slot-written s z {a} {b} {c} {d} {e} {h} f g i j k m l few =
-    m ∙ rw (k, j, i, g, l, f) (slot-put s few)
+slot-written s z f g r d e l few = e ∙ rw (d, r, g, l, f) (slot-put s few)
 
 -- the three ways of a slot
 pub made-written : (s : List ℕ) (cleared : Bool) (z : List ℕ) {t : Bool} {x : List ℕ} → t ≡ true
@@ -189,6 +151,3 @@ pub made-zeros : (s z : List ℕ) (cleared : Bool) {t : Bool} {x : List ℕ} →
     → x ≡ zeros (length z) → x ≡ slotMade s t cleared z
 unfolding slotMade pick
 made-zeros s z cleared l e f g = g ∙ rw (e, f, l) refl
-
-pub head-few : (s : List ℕ) {h : Head} → h ≡ headOf s → partCount s ≤ mostParts → h .«part_count» ≤ mostParts
-head-few s e few = rw e few

@@ -21,19 +21,6 @@ use Rattle.after.specs.declared.Plan.{Plan}
 pub record FreeSlots (b : List ℕ) : Type 0 where
   pub zero : (i : ℕ) → i < slotCount → used (slotAt b i) ≡ false → slotAt b i ≡ zeros slotSize
 
--- bytes 0 to 7 of a slot, and 24 to 37
-unfoldable pub codesBytes : Head → List ℕ
-codesBytes h =
-    bytesOf 2 slotMark ++ (h .«record_type» ∷ h .direction ∷ h .qualification ∷ h .«start_mark» ∷ []) ++ bytesOf 2 (h .ordinal)
-
-unfoldable pub timesBytes : Head → List ℕ
-timesBytes h =
-    bytesOf 4 (h .stamp .0) ++ bytesOf 4 (h .period .start .0) ++ bytesOf 4 (h .period .end .0)
-    ++ bytesOf 2 (h .«part_count»)
-
-unfoldable pub pairOf : Part → List ℕ
-pairOf p = bytesOf 4 (p .period .end .0) ++ bytesOf 4 (kilowatts p)
-
 -- a slot z that is written, cleared or left as it is
 unfoldable pub slotMade : List ℕ → Bool → Bool → List ℕ → List ℕ
 slotMade s written cleared z = pick written (slotBytes (recordOf s) (partsOf s)) (pick cleared (zeros slotSize) z)

@@ -1,17 +1,12 @@
 // The block of an accepted report: a plan that was decided before is written.
 use block::BLOCK_SIZE;
 use block::HEAD_SIZE;
-use block::PAIR_SIZE;
-use block::PAIRS_START;
+use block::Pair;
 use block::SLOT_COUNT;
 use block::SLOT_SIZE;
-use fields::put_u8;
-use fields::put_u16;
 use quantities::Minute;
-use quantities::put_minute;
 use report::Head;
 use report::MOST_PARTS;
-use report::Part;
 use rules::Row;
 ghost use mathlib.Core.Path.{_≡_};
 ghost use Prim.Native.Nat.{_≤_};
@@ -22,7 +17,7 @@ ghost use Rattle.report.specs.Report.{mostParts, partsOf, partCount, partAt};
 ghost use Rattle.rules.specs.Questions.{recordOf};
 ghost use Rattle.rules.specs.After.{putRow, pairBytes, slotBytes};
 ghost use Rattle.rules.specs.Block.{pairsStart, slotSize, blockSize};
-ghost use Rattle.after.specs.Plan.{codesBytes, timesBytes, pairOf, slotMade, rowPlanned, headMade, slotsPlanned, planApplied};
+ghost use Rattle.after.specs.Plan.{slotMade, rowPlanned, headMade, slotsPlanned, planApplied};
 
 // The slots that are cleared, the slot written (8: none), and whether the row changes.
 pub struct Plan {
@@ -31,54 +26,14 @@ pub struct Plan {
     pub changes: bool,
 }
 
-fn put_codes(z: &mut [u8], h: Head)
-    ensures { λ _. ⌜ now (z .exit) ≡ put (now (z .entry)) 0 (codesBytes h) ⌝ }
-{
-    put_u16(z, 0, 0x475A);
-    put_u8(z, 2, h.record_type);
-    put_u8(z, 3, h.direction);
-    put_u8(z, 4, h.qualification);
-    put_u8(z, 5, h.start_mark);
-    put_u16(z, 6, h.ordinal);
-}
-
-fn put_identifier(z: &mut [u8], report: &[u8])
-    ensures { λ _. ⌜ now (z .exit) ≡ put (now (z .entry)) 8 (series (u8At (now (report .entry))) 16 16) ⌝ }
-{
-    for j in 0..16usize {
-        put_u8(z, 8 + j, fields::u8_at(report, 16 + j));
-    }
-}
-
-fn put_times(z: &mut [u8], h: Head)
-    ensures { λ _. ⌜ now (z .exit) ≡ put (now (z .entry)) 24 (timesBytes h) ⌝ }
-{
-    put_minute(z, 24, h.stamp);
-    put_minute(z, 28, h.period.start);
-    put_minute(z, 32, h.period.end);
-    put_u16(z, 36, h.part_count);
-}
-
-// A part's end and its power.
-fn put_pair(z: &mut [u8], at: usize, p: Part)
-    requires { ⌜ at ≤ 65535 ⌝ }
-    ensures { λ _. ⌜ now (z .exit) ≡ put (now (z .entry)) at (pairOf p) ⌝ }
-{
-    let next = at + 4;
-    put_minute(z, at, p.period.end);
-    quantities::put_kilowatt(z, next, quantities::size_of(p.power));
-}
-
 fn put_pairs(z: &mut [u8], report: &[u8], k: u16)
-    requires { ⌜ k ≤ mostParts ⌝ }
     ensures { λ _. ⌜ now (z .exit) ≡ put (now (z .entry)) pairsStart (pairBytes (series (partAt (now (report .entry))) 0 k)) ⌝ }
 {
     for j in 0..k {
-        put_pair(
-            z,
-            PAIRS_START + PAIR_SIZE * (j as usize),
-            report::part_at(report, j),
-        );
+        let part = report::part_level(report, j);
+        let end = part.end;
+        let power = part.power;
+        block::put_pair(z, j, Pair { end, power });
     }
 }
 
@@ -89,9 +44,7 @@ fn write_slot(z: &mut [u8], report: &[u8])
 {
     let h = report::head_of(report);
     block::clear(z);
-    put_codes(z, h);
-    put_identifier(z, report);
-    put_times(z, h);
+    block::put_record(z, records::record_by(h), h.part_count);
     put_pairs(z, report, h.part_count);
 }
 
@@ -133,19 +86,11 @@ fn row_after(b: &[u8], report: &[u8]) -> Row
     row::stepped(row, report::head_of(report)).row
 }
 
-fn put_row(b: &mut [u8], row: Row)
-    ensures { λ _. ⌜ now (b .exit) ≡ putRow (now (b .entry)) row ⌝ }
-{
-    put_u8(b, 7, row.state);
-    put_u8(b, 8, row.qualification);
-    put_minute(b, 12, row.since);
-}
-
 fn change_row(b: &mut [u8], changes: bool, row: Row)
     ensures { λ _. ⌜ now (b .exit) ≡ pick changes (putRow (now (b .entry)) row) (now (b .entry)) ⌝ }
 {
     if changes {
-        put_row(b, row);
+        block::put_row(b, row);
     }
 }
 
@@ -153,7 +98,7 @@ fn set_head(b: &mut [u8], changes: bool, row: Row, stamp: Minute)
     ensures { λ _. ⌜ now (b .exit) ≡ headMade (now (b .entry)) changes row (stamp .0) ⌝ }
 {
     change_row(b, changes, row);
-    put_minute(b, 16, stamp);
+    block::put_last_stamp(b, stamp);
 }
 
 // Writes the plan. A block of another length, or after a report of more than 100 parts, is left as it is.

@@ -1,4 +1,6 @@
 // A unit's block and the roster: decoded, and question 1.
+use fields::put_u8;
+use fields::put_u16;
 use fields::u8_at;
 use fields::u16_at;
 use quantities::Kilowatt;
@@ -6,6 +8,8 @@ use quantities::Minute;
 use quantities::Period;
 use quantities::kilowatt_at;
 use quantities::minute_at;
+use quantities::put_kilowatt;
+use quantities::put_minute;
 use records::OFF_GRID;
 use records::STOP;
 use records::choose;
@@ -26,10 +30,12 @@ ghost use mathlib.Core.Bool.{not, _||_};
 ghost use Prim.Native.Nat.{_+_, _*_, _≤_, _<_};
 ghost use lib.ListN.{length};
 ghost use Rattle.fields.specs.Fields.{u8At, u16At, u32At};
-ghost use Rattle.fields.specs.Lists.{all, series, part};
+ghost use Rattle.fields.specs.Lists.{all, series, part, put};
 ghost use Rattle.rules.specs.Roster.{mostUnits, entrySize, powersAt, entryOf, entryGood, piece, rosterGood};
 ghost use Rattle.rules.specs.Block.{pairsStart, pairStart, slotSize, slotCount, blockSize, zeros, zerosAt, unitHead, slotAt, used, recordIn, storedCount};
 ghost use Rattle.rules.specs.Whole.{recordsApart, slotWhole, slotsApart, blockWhole, registerWhole};
+ghost use Rattle.rules.specs.After.{putRow};
+ghost use Rattle.block.specs.Codec.{putUnit, putLastStamp, putPowers, putUnitHead, codesBytes, timesBytes, putRecord, pairBytesOf};
 ghost use Rattle.block.specs.Slot.{pairAt, endsRise, PowersWithin, pairsRise, holdsAlone, headWhole, FreeFrom};
 
 // A block's head, and its slots, each of fields and pairs.
@@ -489,4 +495,94 @@ pub fn clear(b: &mut [u8])
     for i in 0..b.len() {
         b[i] = 0;
     }
+}
+
+fn put_unit(b: &mut [u8], unit: u16, owner: u16, kind: u8)
+    ensures { λ _. ⌜ now (b .exit) ≡ putUnit (now (b .entry)) unit owner kind ⌝ }
+{
+    put_u16(b, 0, 0x4E55);
+    put_u16(b, 2, unit);
+    put_u16(b, 4, owner);
+    put_u8(b, 6, kind);
+}
+
+pub fn put_row(b: &mut [u8], row: Row)
+    ensures { λ _. ⌜ now (b .exit) ≡ putRow (now (b .entry)) row ⌝ }
+{
+    put_u8(b, 7, row.state);
+    put_u8(b, 8, row.qualification);
+    put_minute(b, 12, row.since);
+}
+
+pub fn put_last_stamp(b: &mut [u8], stamp: Minute)
+    ensures { λ _. ⌜ now (b .exit) ≡ putLastStamp (now (b .entry)) (stamp .0) ⌝ }
+{
+    put_minute(b, 16, stamp);
+}
+
+fn put_powers(b: &mut [u8], p: Powers)
+    ensures { λ _. ⌜ now (b .exit) ≡ putPowers (now (b .entry)) p ⌝ }
+{
+    put_kilowatt(b, 20, p.generation.max);
+    put_kilowatt(b, 24, p.generation.min);
+    put_kilowatt(b, 28, p.consumption.max);
+    put_kilowatt(b, 32, p.consumption.min);
+}
+
+// A unit's head, as unit_head reads it.
+pub fn put_unit_head(b: &mut [u8], h: UnitHead)
+    ensures { λ _. ⌜ now (b .exit) ≡ putUnitHead (now (b .entry)) h ⌝ }
+{
+    put_unit(b, h.unit, h.owner, h.kind);
+    put_row(b, h.row);
+    put_last_stamp(b, h.last_stamp);
+    put_powers(b, h.powers);
+}
+
+fn put_codes(z: &mut [u8], r: Record)
+    ensures { λ _. ⌜ now (z .exit) ≡ put (now (z .entry)) 0 (codesBytes r) ⌝ }
+{
+    put_u16(z, 0, 0x475A);
+    put_u8(z, 2, r.record_type);
+    put_u8(z, 3, r.direction);
+    put_u8(z, 4, r.qualification);
+    put_u8(z, 5, r.start_mark);
+    put_u16(z, 6, r.ordinal);
+}
+
+fn put_identifier(z: &mut [u8], identifier: [u8; 16])
+    ensures { λ _. ⌜ now (z .exit) ≡ put (now (z .entry)) 8 identifier ⌝ }
+{
+    for j in 0..16usize {
+        put_u8(z, 8 + j, identifier[j]);
+    }
+}
+
+fn put_times(z: &mut [u8], r: Record, count: u16)
+    ensures { λ _. ⌜ now (z .exit) ≡ put (now (z .entry)) 24 (timesBytes r count) ⌝ }
+{
+    put_minute(z, 24, r.stamp);
+    put_minute(z, 28, r.period.start);
+    put_minute(z, 32, r.period.end);
+    put_u16(z, 36, count);
+}
+
+// The fields of a slot, as record_in and stored_count read them.
+pub fn put_record(z: &mut [u8], r: Record, count: u16)
+    ensures { λ _. ⌜ now (z .exit) ≡ putRecord (now (z .entry)) r count ⌝ }
+{
+    let identifier = r.identifier;
+    put_codes(z, r);
+    put_identifier(z, identifier);
+    put_times(z, r, count);
+}
+
+// Pair j of a slot, as pair_at reads it.
+pub fn put_pair(z: &mut [u8], j: u16, p: Pair)
+    ensures { λ _. ⌜ now (z .exit) ≡ put (now (z .entry)) (pairStart j) (pairBytesOf p) ⌝ }
+{
+    let at = PAIRS_START + PAIR_SIZE * (j as usize);
+    let next = at + 4;
+    put_minute(z, at, p.end);
+    put_kilowatt(z, next, p.power);
 }

@@ -153,14 +153,6 @@ inside reg s {u} {z} e p q =
     let high = r .1 in
     record { first = omega arith; last = omega arith }
 
-pub lent-length : (reg : List ℕ) (unit : ℕ) → Inside reg unit
-    → length (take (blockSize * (unit - 1) + blockSize - blockSize * (unit - 1)) (drop (blockSize * (unit - 1)) reg)) ≡ blockSize
-lent-length reg unit k =
-    let a = k .first in
-    let b = k .last in
-    let e : blockSize * (unit - 1) + blockSize - blockSize * (unit - 1) ≡ blockSize = omega arith in
-    rw e (length-take-le blockSize (drop (blockSize * (unit - 1)) reg) (simp length-drop (omega arith)))
-
 -- the unit's block as the callee was lent it
 abbrev pub lent : List ℕ → ℕ → List ℕ
 lent reg unit = take (blockSize * (unit - 1) + blockSize - blockSize * (unit - 1)) (drop (blockSize * (unit - 1)) reg)

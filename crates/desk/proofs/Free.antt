@@ -31,7 +31,11 @@ all-zeros z n l e =
     (λ i h. eqb-true _ _ (all-at (λ j. eqb (u8At z j) 0) (λ j. j) 0 n i e (omega arith) (omega arith))
     ∙ sym (getD-replicate n i 0 0 (omega arith)))
 
-block-free : (unit : ℕ) (b : List ℕ) → blockWhole unit b ≡ true → FreeSlots b
+unit-same : (unit : ℕ) (b : List ℕ) → blockWhole unit b ≡ true → unitHead b .unit ≡ unit
+unfolding blockWhole
+unit-same unit b e = eqb-true (unitHead b .unit) unit (every-true _ e .1 .1 .0)
+
+pub block-free : (unit : ℕ) (b : List ℕ) → blockWhole unit b ≡ true → FreeSlots b
 unfolding blockWhole slotWhole pick
 block-free unit b e = record
     { zero = λ i h f. all-zeros (slotAt b i) slotSize (slot-size b (ok-size unit b e) i h) (asked i h f) } where
@@ -50,9 +54,12 @@ block-whole reg unit e k =
     let high = k .last in
     all-at (λ u. blockWhole u (blockAt reg u)) (λ u. u) 1 (length reg / blockSize) unit (every-true _ e .1 .1 .0) low (omega arith)
 
--- of the unit's block as it is lent
-pub lent-free : (reg : List ℕ) {unit : ℕ} {x : Bool} → x ≡ registerWhole reg → not x ≡ false → Inside reg unit
-    → FreeSlots (lent reg unit)
-lent-free reg {unit} {x} e n k =
-    subst FreeSlots (sym (part-lent reg (blockSize * (unit - 1)) blockSize))
-    (block-free unit (blockAt reg unit) (block-whole reg unit (sym e ∙ not-false x n) k))
+named : (unit : ℕ) (b : List ℕ) → blockWhole unit b ≡ true → blockWhole (unitHead b .unit) b ≡ true
+named unit b e = rw (unit-same unit b e) e
+
+-- the unit's block as it is lent
+pub lent-whole : (reg : List ℕ) {unit : ℕ} {x : Bool} → x ≡ registerWhole reg → not x ≡ false → Inside reg unit
+    → blockWhole (unitHead (lent reg unit) .unit) (lent reg unit) ≡ true
+lent-whole reg {unit} {x} e n k =
+    subst (λ (b : List ℕ). blockWhole (unitHead b .unit) b ≡ true) (sym (part-lent reg (blockSize * (unit - 1)) blockSize))
+    (named unit (blockAt reg unit) (block-whole reg unit (sym e ∙ not-false x n) k))

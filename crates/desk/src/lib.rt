@@ -4,13 +4,13 @@ use block::BLOCK_SIZE;
 use rules::Answer;
 ghost use mathlib.Core.Path.{_≡_};
 ghost use Prim.Native.Nat.{_≤_};
-ghost use lib.ListN.{length};
+ghost use mathlib.Core.Bool.{true};
 ghost use Rattle.report.specs.Report.{mostParts, partCount};
 ghost use Rattle.report.specs.Remark.{remarkIn};
 ghost use Rattle.rules.specs.Judge.{refusal as refusalOf, judge as judged};
 ghost use Rattle.rules.specs.Desk.{setUp, question3, answerTo};
-ghost use Rattle.after.specs.Plan.{FreeSlots};
-ghost use Rattle.rules.specs.Block.{blockSize};
+ghost use Rattle.rules.specs.Block.{unitHead};
+ghost use Rattle.rules.specs.Whole.{blockWhole};
 ghost use Rattle.desk.specs.Packed.{packed, packedRemark};
 
 fn refusal(number: u8) -> Answer
@@ -24,8 +24,8 @@ fn refusal(number: u8) -> Answer
 
 // Questions 4 to 19 on the unit's own block, lent as a part of the register.
 fn judge_block(b: &mut [u8], report: &[u8]) -> Answer
-    requires { ⌜ (length (now b) ≡ blockSize) × (partCount (now report) ≤ mostParts) ⌝ }
-    requires { ⌜ FreeSlots (now b) ⌝ }
+    requires { ⌜ blockWhole (unitHead (now b) .unit) (now b) ≡ true ⌝ }
+    requires { ⌜ partCount (now report) ≤ mostParts ⌝ }
     ensures { λ r. ⌜ r ≡ judged (now (b .entry)) (now (report .entry)) .answer ⌝ }
     ensures { λ _. ⌜ now (b .exit) ≡ judged (now (b .entry)) (now (report .entry)) .after ⌝ }
 {

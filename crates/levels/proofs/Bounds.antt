@@ -5,7 +5,7 @@ use mathlib.Core.Bool.{Bool, true, false, not, _&&_, _||_, false≢true}
 use mathlib.Core.List.{List}
 use native.Mathlib.Omega.{arith}
 use lib.Dec.{leb, ltb, eqb}
-use borrow.Author.Tests.{le-leb, leb-true, lt-ltb, ltb-true, eqb-true, eqb-false}
+use borrow.Author.Tests.{le-leb, leb-true, lt-ltb, ltb-true, eqb-true, eqb-false, not-true}
 use Rattle.fields.specs.Lists.{pick, series}
 use Rattle.fields.proofs.Bools.{and-left, and-right, and-both, pick-elim}
 use Rattle.fields.proofs.Tests.{all-intro}
@@ -232,6 +232,18 @@ module _ (b s : List ℕ) (lanes : List Lane) (ws : List FullRecord) (direction 
       (period .end .0 - period .start .0)
       (λ k a o. ap (levelsFit kind range) (sym (same k)) ∙ extremes-levels range f p n (laneLevels b s (laneIn lanes) k)
       (cp .covers k a (omega arith)) (cn .covers k a (omega arith)) kind (cf .covers k a (omega arith)) (sym q ∙ t)))
+
+  -- no minute has a forced level
+  pub fits-unforced : {f : Extremes} → CoversType b s lanes 4 period f → not (f .there) ≡ true
+      → true ≡ levelsEvery (levelsFit kind range) ws direction (period .start .0) (period .end .0)
+  unfolding levelsEvery laneLevels levelsFit
+  fits-unforced {f} cf none =
+      sym
+      (all-intro (λ m. levelsFit kind range (levelsAt ws direction m)) (λ m. m) (period .start .0)
+      (period .end .0 - period .start .0)
+      (λ k a o. ap (levelsFit kind range) (sym (same k))
+      ∙ if-there (laneLevels b s (laneIn lanes) k .forced .there) _
+      (λ t. absurd (false≢true (sym (not-true (f .there) none) ∙ cf .covers k a (omega arith) .there t)))))
 
 pub fits-swept : (kind : ℕ) (range : PowerRange) (ws : List FullRecord) (direction start end : ℕ) {g : SweepResult}
     → g ≡ sweepResult kind range ws direction start end → g .fits ≡ levelsEvery (levelsFit kind range) ws direction start end

@@ -716,6 +716,9 @@ pub fn fits(
 {
     let lanes = lanes_of(b, report, swept, direction);
     let forced = extremes_of(b, report, lanes, FORCED_WORK, period);
+    if !forced.there {
+        return true;
+    }
     let positive = extremes_of(b, report, lanes, POSITIVE_DERATING, period);
     let negative = extremes_of(b, report, lanes, NEGATIVE_DERATING, period);
     if extremes_fit(kind, range, forced, positive, negative) {

@@ -19,28 +19,35 @@ use Rattle.rules.specs.declared.RosterEntry.{RosterEntry}
 use Rattle.rules.specs.Roster.{mostUnits, entrySize, entryOf, rosterGood, piecesPass}
 use Rattle.rules.specs.Block.{headSize, slotSize, slotCount, blockSize, zeros, headBytes, freshBlock}
 use Rattle.rules.specs.Desk.{units, entryAt, newRegister, setUp}
-use Rattle.setup.specs.Written.{putUnit, putFreshRow, putPowers, refusalOf}
+use Rattle.rules.specs.declared.UnitHead.{UnitHead}
+use Rattle.rules.specs.After.{putRow}
+use Rattle.block.specs.Codec.{putUnit, putLastStamp, putPowers, putUnitHead}
+use Rattle.setup.specs.Written.{refusalOf}
 
 zeros-head : (n m : ℕ) → zeros (n + m) ≡ zeros n ++ zeros m
 unfolding zeros
 zeros-head n m = sym (replicate-append-replicate n m 0)
 
 -- the writes on zeros, as paper 01's list of bytes
-written : (tail : List ℕ) (unit : ℕ) (e : RosterEntry)
-    → putPowers (putFreshRow (putUnit (zeros headSize ++ tail) unit (e .owner) (e .kind)) (e .row)) (e .powers) ≡ headBytes
-    (record { unit = unit; owner = e .owner; kind = e .kind; row = e .row; «last_stamp» = e .row .since; powers = e .powers }) ++
-    tail
-unfolding putPowers putFreshRow putUnit headBytes put bytesOf zeros
-written tail unit e = refl
+written : (tail : List ℕ) (h : UnitHead) → putUnitHead (zeros headSize ++ tail) h ≡ headBytes h ++ tail
+unfolding putUnitHead putPowers putLastStamp putRow putUnit headBytes put bytesOf zeros
+written tail h = refl
 
--- a block cleared and written, one group of fields after the other
-pub fresh-written : (unit : ℕ) (e : RosterEntry) (first : List ℕ) {a b c d : List ℕ} → length first ≡ blockSize
-    → a ≡ zeros (length first) → b ≡ putUnit a unit (e .owner) (e .kind) → c ≡ putFreshRow b (e .row)
-    → d ≡ putPowers c (e .powers) → d ≡ freshBlock unit e
+-- a block cleared, and its head written
+pub fresh-written : (unit : ℕ) (e : RosterEntry) (first : List ℕ) {a b : List ℕ} {h : UnitHead} → length first ≡ blockSize
+    → a ≡ zeros (length first) → b ≡ putUnitHead a h → h ≡ record {
+      unit = unit;
+      owner = e .owner;
+      kind = e .kind;
+      row = e .row;
+      «last_stamp» = e .row .since;
+      powers = e .powers;
+    } → b ≡ freshBlock unit e
 unfolding freshBlock
-fresh-written unit e first {a} {b} {c} {d} long cleared named rowed powered =
-    let zero : a ≡ zeros headSize ++ zeros (slotSize * slotCount) = cleared ∙ ap zeros long ∙ zeros-head headSize (slotSize * slotCount) in
-    rw (powered, rowed, named, zero) (written (zeros (slotSize * slotCount)) unit e)
+fresh-written unit e first {a} {b} {h} long cleared headed same =
+    let zero : a ≡ zeros headSize ++ zeros (slotSize * slotCount) =
+    cleared ∙ ap zeros long ∙ zeros-head headSize (slotSize * slotCount) in
+    rw (headed, zero, same) (written (zeros (slotSize * slotCount)) _)
 
 fresh-length : (unit : ℕ) (e : RosterEntry) → length (freshBlock unit e) ≡ blockSize
 unfolding freshBlock headBytes bytesOf zeros

@@ -11,4 +11,4 @@ set-head-spec =
     (λ c κs. search needs)
     (λ c. search needs)
     (λ c. head-written _ _ _ _ (c .before .before .before .before .before .before .change-row .ensures)
-    (c .before .before .put-minute .ensures)))
+    (c .before .before .put-last-stamp .ensures)))

@@ -7,8 +7,8 @@ use borrow.Author.Tests.{not-false}
 use Rattle.report.specs.declared.Head.{Head}
 use Rattle.report.proofs.Sizes.{whole-sized}
 use Rattle.rules.specs.Judge.{judge}
-use Rattle.desk.proofs.Answers.{no-1, no-2, no-3, judged-there, inside, lent-length, answered-there, left-there}
-use Rattle.desk.proofs.Free.{lent-free}
+use Rattle.desk.proofs.Answers.{no-1, no-2, no-3, judged-there, inside, answered-there, left-there}
+use Rattle.desk.proofs.Free.{lent-whole}
 use borrow.Author.Needs.{needs}
 use Rattle.desk.proofs.answer_report.Statement.{statement}
 use Rattle.desk.proofs.answer_report.Tie as tie
@@ -37,12 +37,8 @@ part-judge-block-end c =
 
 judge-block-requires : tie.Need-judge-block-requires
 judge-block-requires c κs =
-    let k = inside _ _ (ap (λ (h : Head). h .unit) (c .before .before .head-of .ensures))
-    (c .before .before .before .before .is-addressed .ensures) (c .before .before .before .if3 .left) in
-    let whole = c .before .before .before .before .before .before in (
-      (lent-length _ _ k, whole-sized _ (sym (whole .before .is-whole .ensures) ∙ not-false _ (whole .if2 .left)) .few),
-      lent-free _ (whole .before .before .before .register-whole .ensures) (whole .before .before .if1 .left) k,
-    )
+    let k = inside _ _ (ap (λ (h : Head). h .unit) (c .before .before .head-of .ensures)) (c .before .before .before .before .is-addressed .ensures) (c .before .before .before .if3 .left) in
+    (lent-whole _ (c .before .before .before .before .before .before .before .before .before .register-whole .ensures) (c .before .before .before .before .before .before .before .before .if1 .left) k, whole-sized _ (sym (c .before .before .before .before .before .before .before .is-whole .ensures) ∙ not-false _ (c .before .before .before .before .before .before .if2 .left)) .few)
 
 returns-4 : tie.Need-returns-4
 returns-4 c =

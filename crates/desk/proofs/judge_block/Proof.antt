@@ -1,5 +1,7 @@
 use native.Mathlib.Omega.{arith}
 use Rattle.desk.proofs.Answers.{refuses, accepts}
+use Rattle.rules.proofs.BlockLaws.{ok-size}
+use Rattle.desk.proofs.Free.{block-free}
 use borrow.Author.Needs.{needs}
 use Rattle.desk.proofs.judge_block.Statement.{statement}
 use Rattle.desk.proofs.judge_block.Tie as tie
@@ -9,10 +11,7 @@ returns c = refuses _ _ (c .before .before .before .decide .ensures) (c .before 
 
 returns-2 : tie.Need-returns-2
 returns-2 c =
-    let given = c .before .before .before .before .before .before .before .before .before .before .before .before .before .before .pre in
-    accepts _ _ (c .before .before .before .before .before .before .before .before .before .before .decide .ensures)
-    (given .0 .0) (given .1) (given .0 .1) (c .before .before .before .before .before .before .before .before .if1 .left)
-    (c .before .before .before .before .before .apply .ensures) (c .before .head-of .ensures) (c .warnings-on .ensures)
+    accepts _ _ (c .before .before .before .before .before .before .before .before .before .before .decide .ensures) (ok-size _ _ (c .before .before .before .before .before .before .before .before .before .before .before .before .before .before .pre .0)) (block-free _ _ (c .before .before .before .before .before .before .before .before .before .before .before .before .before .before .pre .0)) (c .before .before .before .before .before .before .before .before .before .before .before .before .before .before .pre .1) (c .before .before .before .before .before .before .before .before .if1 .left) (c .before .before .before .before .before .apply .ensures) (c .before .head-of .ensures) (c .warnings-on .ensures)
 
 pub judge-block-spec : {M : Type 1} → statement M
 judge-block-spec =

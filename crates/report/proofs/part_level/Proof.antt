@@ -25,4 +25,4 @@ part-level-spec =
     returns
     (λ c κs. search needs)
     (λ c κs. search needs)
-    (λ c. level-of-part _ _ (c .before .before .part-at .ensures) (c .size-of .ensures)))
+    (λ c. level-of-part _ _ (c .before .before .part-by-fields .ensures) (c .size-of .ensures)))

@@ -1,0 +1,45 @@
+-- What the writers of a block put, field by field, where its readers read it: proofs/Written.antt shows what is then read.
+use Prim.Native.Nat.{ℕ}
+use mathlib.Core.List.{List, [], _∷_, _++_}
+use Rattle.fields.specs.Fields.{bytesOf, putU16, putU32}
+use Rattle.fields.specs.Lists.{put}
+use Rattle.rules.specs.declared.Powers.{Powers}
+use Rattle.rules.specs.declared.Record.{Record}
+use Rattle.rules.specs.declared.UnitHead.{UnitHead}
+use Rattle.rules.specs.Block.{unitMark, slotMark}
+use Rattle.rules.specs.After.{putRow}
+use Rattle.block.specs.declared.Pair.{Pair}
+
+unfoldable pub putUnit : List ℕ → ℕ → ℕ → ℕ → List ℕ
+putUnit b unit owner kind = put (putU16 (putU16 (putU16 b 0 unitMark) 2 unit) 4 owner) 6 (kind ∷ [])
+
+unfoldable pub putLastStamp : List ℕ → ℕ → List ℕ
+putLastStamp b stamp = putU32 b 16 stamp
+
+unfoldable pub putPowers : List ℕ → Powers → List ℕ
+putPowers b p =
+    putU32
+    (putU32 (putU32 (putU32 b 20 (p .generation .max .0)) 24 (p .generation .min .0)) 28 (p .consumption .max .0))
+    32
+    (p .consumption .min .0)
+
+-- a unit's head
+unfoldable pub putUnitHead : List ℕ → UnitHead → List ℕ
+putUnitHead b h =
+    putPowers (putLastStamp (putRow (putUnit b (h .unit) (h .owner) (h .kind)) (h .row)) (h .«last_stamp» .0)) (h .powers)
+
+-- bytes 0 to 7 of a slot, and 24 to 37
+unfoldable pub codesBytes : Record → List ℕ
+codesBytes r =
+    bytesOf 2 slotMark ++ (r .«record_type» ∷ r .direction ∷ r .qualification ∷ r .«start_mark» ∷ []) ++ bytesOf 2 (r .ordinal)
+
+unfoldable pub timesBytes : Record → ℕ → List ℕ
+timesBytes r count =
+    bytesOf 4 (r .stamp .0) ++ bytesOf 4 (r .period .start .0) ++ bytesOf 4 (r .period .end .0) ++ bytesOf 2 count
+
+-- a slot's fields
+unfoldable pub putRecord : List ℕ → Record → ℕ → List ℕ
+putRecord z r count = put (put (put z 0 (codesBytes r)) 8 (r .identifier)) 24 (timesBytes r count)
+
+unfoldable pub pairBytesOf : Pair → List ℕ
+pairBytesOf p = bytesOf 4 (p .end .0) ++ bytesOf 4 (p .power .0)
