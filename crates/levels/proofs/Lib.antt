@@ -6,3 +6,4 @@ pub mod Turns
 pub mod Stretches
 pub mod Bounds
 pub mod Within
+pub mod Unforced

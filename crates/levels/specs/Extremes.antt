@@ -1,18 +1,31 @@
 -- The lowest and the highest power of a type's lanes in a period: where these fit, every minute does.
 use Prim.Native.Nat.{ℕ, _≤_, _<_}
 use mathlib.Core.Path.{_≡_}
-use mathlib.Core.Bool.{Bool, true, _&&_}
+use mathlib.Core.Bool.{Bool, true, false, not, _&&_}
 use mathlib.Core.List.{List}
+use lib.Dec.{eqb}
+use lib.ListN.{getD}
+use Rattle.fields.specs.Lists.{all, series}
 use Rattle.quantities.specs.declared.Kilowatt.{Kilowatt}
 use Rattle.quantities.specs.declared.Period.{Period}
 use Rattle.rules.specs.declared.Level.{Level}
 use Rattle.rules.specs.declared.Levels.{Levels}
 use Rattle.rules.specs.declared.PowerRange.{PowerRange}
+use Rattle.rules.specs.Codes.{forcedWork}
+use Rattle.rules.specs.Block.{slotCount}
+use Rattle.rules.specs.Questions.{recordAt}
 use Rattle.rules.specs.Minutes.{levelsFit}
 use Rattle.block.specs.declared.Pair.{Pair}
 use Rattle.levels.specs.declared.Extremes.{Extremes}
 use Rattle.levels.specs.declared.Lane.{Lane}
 use Rattle.levels.specs.Lanes.{laneCount, laneIn, levelAmongLanes}
+
+-- slot i counts and has forced work; some slot does
+abbrev pub forcedAt : List ℕ → List Bool → ℕ → Bool
+forcedAt b counted i = getD counted i false && eqb (recordAt b i .«record_type») forcedWork
+
+unfoldable pub someForced : List ℕ → List Bool → Bool
+someForced b counted = not (all (λ i. not (forcedAt b counted i)) (series (λ i. i) 0 slotCount))
 
 -- a level that there is lies between the two; a power that is not there counts as 0
 pub record Covers (e : Extremes) (l : Level) : Type 0 where

@@ -24,7 +24,7 @@ ghost use Rattle.levels.specs.Pairs.{pairOf, levelAmongPairs, Passed};
 ghost use Rattle.levels.specs.Counted.{countedRecords, sweptRecords};
 ghost use Rattle.levels.specs.Lanes.{laneCount, noLane, laneOf, reportLane, slotLane, laneAt, laneIn, laneLevel, laneLevels, levelsOf, Stepped, Placed, Held, Chosen, chosenLevels, choiceLevels, spanAt, placeAfter, AheadAll, besideOf, soonest, Ready};
 ghost use Rattle.levels.specs.Result.{withSpan, bothFound, foundIn, Ran, sweepResult};
-ghost use Rattle.levels.specs.Extremes.{WiderBy, CoversType, extremesFit};
+ghost use Rattle.levels.specs.Extremes.{someForced, WiderBy, CoversType, extremesFit};
 ghost use Rattle.levels.specs.Within.{powerWithin, pairsWithin, slotWithin, forcedWithin, levelWarnings};
 
 // The lanes of a sweep: the report's and one for each slot.
@@ -702,6 +702,18 @@ fn extremes_fit(kind: u8, range: PowerRange, f: Extremes, p: Extremes, n: Extrem
     levels_fit(kind, range, highest) & levels_fit(kind, range, lowest)
 }
 
+// Some slot that counts has forced work.
+fn some_forced(b: &[u8], counted: [bool; 8]) -> bool
+    ensures { λ r. ⌜ r ≡ someForced (now (b .entry)) counted ⌝ }
+{
+    let mut none = true;
+    for i in 0..SLOT_COUNT {
+        let r = block::record_in(block::slot_at(b, i));
+        none = none & !(counted[i as usize] & (r.record_type == FORCED_WORK));
+    }
+    !none
+}
+
 // Question 17 in every minute of a period, of the records of one direction. Only where the extremes do not fit is it swept.
 pub fn fits(
     b: &[u8],
@@ -714,6 +726,11 @@ pub fn fits(
 ) -> bool
     ensures { λ r. ⌜ r ≡ levelsEvery (levelsFit kind range) (sweptRecords (now (b .entry)) (now (report .entry)) (swept .counted) (swept .«with_report»)) direction (period .start .0) (period .end .0) ⌝ }
 {
+    let counted = swept.counted;
+    let reported = report::head_of(report).record_type == FORCED_WORK;
+    if !(swept.with_report & reported) & !some_forced(b, counted) {
+        return true;
+    }
     let lanes = lanes_of(b, report, swept, direction);
     let forced = extremes_of(b, report, lanes, FORCED_WORK, period);
     if !forced.there {
