@@ -136,16 +136,7 @@ pub fn unit_head(b: &[u8]) -> UnitHead
         since,
     };
     let last_stamp = minute_at(&head, 16);
-    let max = kilowatt_at(&head, 20);
-    let min = kilowatt_at(&head, 24);
-    let generation = PowerRange { max, min };
-    let max = kilowatt_at(&head, 28);
-    let min = kilowatt_at(&head, 32);
-    let consumption = PowerRange { max, min };
-    let powers = Powers {
-        generation,
-        consumption,
-    };
+    let powers = powers_at(&head, 20);
     UnitHead {
         unit: u16_at(&head, 2),
         owner: u16_at(&head, 4),
