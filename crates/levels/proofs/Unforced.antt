@@ -40,7 +40,8 @@ module _ (b : List ℕ) (counted : List Bool) (direction m : ℕ) where
           → levelAmong (recordsAmong b (λ i. getD counted i false) (i + 1) n) forcedWork direction m ≡ noLevel
           → levelAmong (recordsAmong b (λ i. getD counted i false) i (suc n)) forcedWork direction m ≡ noLevel
       by-case false f p q t rest = rw p rest
-      by-case true false p q t rest = rw p (other-type (slotRecord b i) (recordsAmong b (λ i. getD counted i false) (i + 1) n) direction m q ∙ rest)
+      by-case true false p q t rest = rw p
+          (other-type (slotRecord b i) (recordsAmong b (λ i. getD counted i false) (i + 1) n) direction m q ∙ rest)
       by-case true true p q t rest = absurd (false≢true t)
 
 -- the report's record and the slots'

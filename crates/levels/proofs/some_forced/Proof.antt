@@ -16,7 +16,9 @@ abbrev μ-loop : tie.MeasureT-loop
 μ-loop b counted none₀ i₀ none i = slotCount - i
 
 loop-again : tie.Need-loop-again Inv-loop μ-loop
-loop-again c = forced-tested _ (c .before .before .before .before .before .before .args .t2) (c .before .before .before .before .loop .inv) (omega arith) (c .before .before .slot-at .ensures) (c .before .record-in .ensures)
+loop-again c = forced-tested _ (c .before .before .before .before .before .before .args .t2)
+    (c .before .before .before .before .loop .inv) (omega arith) (c .before .before .slot-at .ensures)
+    (c .before .record-in .ensures)
 
 returns : tie.Need-returns Inv-loop μ-loop
 returns c = forced-found _ _ (c .before .loop .inv) (c .loop-test .left)
@@ -31,6 +33,7 @@ some-forced-spec =
     (λ c κs. search needs)
     (λ c κs. search needs)
     (λ c. search needs)
+    (λ c. omega arith)
     (λ c. omega arith)
     (λ c. omega arith)
     loop-again
