@@ -7,7 +7,7 @@ use native.Mathlib.Omega.{arith}
 use native.Mathlib.Nat.{zero-add}
 use lib.Dec.{eqb}
 use lib.ListN.{getD}
-use borrow.Author.Tests.{eq-eqb, ne-eqb}
+use borrow.Author.Tests.{eq-eqb, ne-eqb, not-true, not-false}
 use Rattle.fields.specs.Lists.{pick, all, series}
 use Rattle.fields.proofs.Bools.{chosen, passed-over}
 use Rattle.fields.proofs.Tests.{series-at}
@@ -28,10 +28,14 @@ use Rattle.levels.specs.Within.{levelWarnings}
 use Rattle.judge.specs.Warned.{overlapAt, minuteWarnings, warningsOn}
 use Rattle.judge.proofs.Joins.{records-same}
 
-pub overlap-join : (after : List ℕ) (r : Record) (i : ℕ) {z : List ℕ} {x : Record} {u o m p : Bool} → z ≡ slotAt after i
-    → x ≡ recordIn z → u ≡ used z → o ≡ oneStopOneLevelled r x → m ≡ meet (r .direction) (x .direction)
-    → p ≡ overlap (r .period) (x .period) → (u && o && m && p) ≡ overlapAt after r i
-overlap-join after r i e f a b c d = rw (a, b, c, d, f, e)
+-- warning 1, of a slot that was read: free, or with a record
+module _ (after : List ℕ) (r : Record) (i : ℕ) {z : List ℕ} {u : Bool} (read : z ≡ slotAt after i) (asked : u ≡ used z) where
+  pub no-overlap : not u ≡ true → false ≡ overlapAt after r i
+  no-overlap n = rw (← read, sym asked ∙ not-true u n)
+
+  pub overlap-join : {x : Record} {o m p : Bool} → not u ≡ false → x ≡ recordIn z → o ≡ oneStopOneLevelled r x
+      → m ≡ meet (r .direction) (x .direction) → p ≡ overlap (r .period) (x .period) → (o && m && p) ≡ overlapAt after r i
+  overlap-join n f b c d = rw (b, c, d, f, ← read, sym asked ∙ not-false u n)
 
 pub warns-join : (after : List ℕ) (h : Head) {r : Record} {none : Bool} → r ≡ recordBy h
     → none ≡ all (λ i. not (overlapAt after r i)) (series (λ i. i) 0 8) → not none ≡ warnsOverlap after h

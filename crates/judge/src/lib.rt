@@ -368,9 +368,11 @@ fn overlaps_at(after: &[u8], r: Record, i: u8) -> bool
     ensures { λ t. ⌜ t ≡ overlapAt (now (after .entry)) r i ⌝ }
 {
     let z = block::slot_at(after, i);
+    if !block::is_used(z) {
+        return false;
+    }
     let x = block::record_in(z);
-    block::is_used(z)
-        & one_stop_one_levelled(r, x)
+    one_stop_one_levelled(r, x)
         & records::directions_meet(r.direction, x.direction)
         & quantities::overlapping(r.period, x.period)
 }
