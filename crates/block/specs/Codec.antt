@@ -1,4 +1,4 @@
--- What the writers of a block put, field by field, where its readers read it: proofs/Written.antt shows what is then read.
+-- What the writers of a block put, field by field, where its readers read it.
 use Prim.Native.Nat.{ℕ}
 use mathlib.Core.List.{List, [], _∷_, _++_}
 use Rattle.fields.specs.Fields.{bytesOf, putU16, putU32}
