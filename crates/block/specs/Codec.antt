@@ -1,12 +1,15 @@
 -- What the writers of a block put, field by field, where its readers read it.
-use Prim.Native.Nat.{ℕ}
+use Prim.Native.Nat.{ℕ, _<_}
+use mathlib.Core.Path.{_≡_}
+use mathlib.Core.Bool.{true}
 use mathlib.Core.List.{List, [], _∷_, _++_}
+use lib.ListN.{length}
 use Rattle.fields.specs.Fields.{bytesOf, putU16, putU32}
 use Rattle.fields.specs.Lists.{put}
 use Rattle.rules.specs.declared.Powers.{Powers}
 use Rattle.rules.specs.declared.Record.{Record}
 use Rattle.rules.specs.declared.UnitHead.{UnitHead}
-use Rattle.rules.specs.Block.{unitMark, slotMark}
+use Rattle.rules.specs.Block.{unitMark, slotMark, used, recordIn, storedCount}
 use Rattle.rules.specs.After.{putRow}
 use Rattle.block.specs.declared.Pair.{Pair}
 
@@ -43,3 +46,38 @@ putRecord z r count = put (put (put z 0 (codesBytes r)) 8 (r .identifier)) 24 (t
 
 unfoldable pub pairBytesOf : Pair → List ℕ
 pairBytesOf p = bytesOf 4 (p .end .0) ++ bytesOf 4 (p .power .0)
+
+-- where the fields of a head end, and those of a slot
+abbrev pub headFieldsEnd : ℕ
+headFieldsEnd = 36
+
+abbrev pub slotFieldsEnd : ℕ
+slotFieldsEnd = 38
+
+-- numbers that fit their bytes
+pub record HeadFits (h : UnitHead) : Type 0 where
+  pub unit : h .unit < 65536
+  pub owner : h .owner < 65536
+  pub since : h .row .since .0 < 4294967296
+  pub stamp : h .«last_stamp» .0 < 4294967296
+  pub generation-max : h .powers .generation .max .0 < 4294967296
+  pub generation-min : h .powers .generation .min .0 < 4294967296
+  pub consumption-max : h .powers .consumption .max .0 < 4294967296
+  pub consumption-min : h .powers .consumption .min .0 < 4294967296
+
+pub record RecordFits (r : Record) : Type 0 where
+  pub ordinal : r .ordinal < 65536
+  pub identifier : length (r .identifier) ≡ 16
+  pub stamp : r .stamp .0 < 4294967296
+  pub start : r .period .start .0 < 4294967296
+  pub end : r .period .end .0 < 4294967296
+
+-- this record stands in the slot, with so many pairs
+pub record HoldsRecord (z : List ℕ) (r : Record) (count : ℕ) : Type 0 where
+  pub marked : used z ≡ true
+  pub fields : recordIn z ≡ r
+  pub pairs : storedCount z ≡ count
+
+pub record PairFits (p : Pair) : Type 0 where
+  pub end : p .end .0 < 4294967296
+  pub power : p .power .0 < 4294967296

@@ -27,15 +27,20 @@ use rules::Row;
 use rules::UnitHead;
 ghost use mathlib.Core.Path.{_≡_};
 ghost use mathlib.Core.Bool.{not, _||_};
-ghost use Prim.Native.Nat.{_+_, _*_, _≤_, _<_};
-ghost use lib.ListN.{length};
+ghost use mathlib.Core.List.{List};
+ghost use Prim.Native.Nat.{ℕ, _+_, _*_, _≤_, _<_};
+ghost use lib.ListN.{length, drop};
 ghost use Rattle.fields.specs.Fields.{u8At, u16At, u32At};
 ghost use Rattle.fields.specs.Lists.{all, series, part, put};
+ghost use Rattle.rules.specs.declared.Record.{Record};
+ghost use Rattle.rules.specs.declared.UnitHead.{UnitHead};
 ghost use Rattle.rules.specs.Roster.{mostUnits, entrySize, powersAt, entryOf, entryGood, piece, rosterGood};
 ghost use Rattle.rules.specs.Block.{pairsStart, pairStart, slotSize, slotCount, blockSize, zeros, zerosAt, unitHead, slotAt, used, recordIn, storedCount};
 ghost use Rattle.rules.specs.Whole.{recordsApart, slotWhole, slotsApart, blockWhole, registerWhole};
 ghost use Rattle.rules.specs.After.{putRow};
 ghost use Rattle.block.specs.Codec.{putUnit, putLastStamp, putPowers, putUnitHead, codesBytes, timesBytes, putRecord, pairBytesOf};
+ghost use Rattle.block.specs.Codec.{headFieldsEnd, slotFieldsEnd, HeadFits, RecordFits, HoldsRecord, PairFits};
+ghost use Rattle.block.specs.declared.Pair.{Pair};
 ghost use Rattle.block.specs.Slot.{pairAt, endsRise, PowersWithin, pairsRise, holdsAlone, headWhole, FreeFrom};
 
 // A block's head, and its slots, each of fields and pairs.
@@ -586,3 +591,11 @@ pub fn put_pair(z: &mut [u8], j: u16, p: Pair)
     put_minute(z, at, p.end);
     put_kilowatt(z, next, p.power);
 }
+
+// What is put is read back: a head; a record and how many pairs it has, which leave the slot's other bytes; a pair.
+pub fn what_is_written_is_read_back()
+    ensures head { λ _. ⌜ ((b : List ℕ) (h : UnitHead) → headFieldsEnd ≤ length b → HeadFits h → unitHead (putUnitHead b h) ≡ h) ⌝ }
+    ensures slot { λ _. ⌜ ((z : List ℕ) (r : Record) (k : ℕ) → slotFieldsEnd ≤ length z → RecordFits r → k < 65536 → HoldsRecord (putRecord z r k) r k) ⌝ }
+    ensures others { λ _. ⌜ ((z : List ℕ) (r : Record) (k : ℕ) → slotFieldsEnd ≤ length z → RecordFits r → drop slotFieldsEnd (putRecord z r k) ≡ drop slotFieldsEnd z) ⌝ }
+    ensures pair { λ _. ⌜ ((z : List ℕ) (j : ℕ) (p : Pair) → pairStart (j + 1) ≤ length z → PairFits p → pairAt (put z (pairStart j) (pairBytesOf p)) j ≡ p) ⌝ }
+{}
