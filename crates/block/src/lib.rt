@@ -278,7 +278,7 @@ fn pairs_fit(z: &[u8], k: u16, period: Period) -> bool
     ensures { λ r. ⌜ r ≡ pairsRise (now (z .entry)) pairsStart k (period .start .0) (period .end .0) ⌝ }
 {
     let found = ends_rise(z, k, period);
-    if found.bound <= 99999999 {
+    if quantities::is_power(Kilowatt(found.bound)) {
         return found.rise;
     }
     pairs_rise(z, k, period)
