@@ -13,12 +13,12 @@ use Rattle.fields.proofs.Numbers.{uint-found, uint-put, uint-same}
 use Rattle.fields.proofs.Slices.{put-length, put-append, put-below}
 use Rattle.rules.specs.declared.Record.{Record}
 use Rattle.rules.specs.declared.UnitHead.{UnitHead}
-use Rattle.rules.specs.Block.{pairStart, unitHead, used, recordIn, storedCount}
+use Rattle.rules.specs.Block.{pairStart, unitHead, HeadFits}
 use Rattle.rules.specs.After.{putRow}
 use Rattle.block.specs.declared.Pair.{Pair}
 use Rattle.block.specs.Slot.{pairAt}
 use Rattle.block.specs.Codec.{putUnit, putLastStamp, putPowers, putUnitHead, codesBytes, timesBytes, putRecord, pairBytesOf}
-use Rattle.block.specs.Codec.{headFieldsEnd, slotFieldsEnd, HeadFits, RecordFits, HoldsRecord, PairFits}
+use Rattle.block.specs.Codec.{headFieldsEnd, slotFieldsEnd, RecordFits, HoldsRecord, PairFits}
 
 -- the first n elements one by one, and a list of which they are the start
 taken : (s : List ℕ) (n : ℕ) → n ≤ length s → take n s ≡ series (u8At s) 0 n

@@ -54,17 +54,7 @@ headFieldsEnd = 36
 abbrev pub slotFieldsEnd : ℕ
 slotFieldsEnd = 38
 
--- numbers that fit their bytes
-pub record HeadFits (h : UnitHead) : Type 0 where
-  pub unit : h .unit < 65536
-  pub owner : h .owner < 65536
-  pub since : h .row .since .0 < 4294967296
-  pub stamp : h .«last_stamp» .0 < 4294967296
-  pub generation-max : h .powers .generation .max .0 < 4294967296
-  pub generation-min : h .powers .generation .min .0 < 4294967296
-  pub consumption-max : h .powers .consumption .max .0 < 4294967296
-  pub consumption-min : h .powers .consumption .min .0 < 4294967296
-
+-- numbers that fit their bytes, and an identifier that fills its sixteen
 pub record RecordFits (r : Record) : Type 0 where
   pub ordinal : r .ordinal < 65536
   pub identifier : length (r .identifier) ≡ 16
@@ -72,12 +62,12 @@ pub record RecordFits (r : Record) : Type 0 where
   pub start : r .period .start .0 < 4294967296
   pub end : r .period .end .0 < 4294967296
 
+pub record PairFits (p : Pair) : Type 0 where
+  pub end : p .end .0 < 4294967296
+  pub power : p .power .0 < 4294967296
+
 -- this record stands in the slot, with so many pairs
 pub record HoldsRecord (z : List ℕ) (r : Record) (count : ℕ) : Type 0 where
   pub marked : used z ≡ true
   pub fields : recordIn z ≡ r
   pub pairs : storedCount z ≡ count
-
-pub record PairFits (p : Pair) : Type 0 where
-  pub end : p .end .0 < 4294967296
-  pub power : p .power .0 < 4294967296

@@ -35,11 +35,11 @@ ghost use Rattle.fields.specs.Lists.{all, series, part, put};
 ghost use Rattle.rules.specs.declared.Record.{Record};
 ghost use Rattle.rules.specs.declared.UnitHead.{UnitHead};
 ghost use Rattle.rules.specs.Roster.{mostUnits, entrySize, powersAt, entryOf, entryGood, piece, rosterGood};
-ghost use Rattle.rules.specs.Block.{pairsStart, pairStart, slotSize, slotCount, blockSize, zeros, zerosAt, unitHead, slotAt, used, recordIn, storedCount};
+ghost use Rattle.rules.specs.Block.{pairsStart, pairStart, slotSize, slotCount, blockSize, zeros, zerosAt, unitHead, HeadFits, slotAt, used, recordIn, storedCount};
 ghost use Rattle.rules.specs.Whole.{recordsApart, slotWhole, slotsApart, blockWhole, registerWhole};
 ghost use Rattle.rules.specs.After.{putRow};
 ghost use Rattle.block.specs.Codec.{putUnit, putLastStamp, putPowers, putUnitHead, codesBytes, timesBytes, putRecord, pairBytesOf};
-ghost use Rattle.block.specs.Codec.{headFieldsEnd, slotFieldsEnd, HeadFits, RecordFits, HoldsRecord, PairFits};
+ghost use Rattle.block.specs.Codec.{headFieldsEnd, slotFieldsEnd, RecordFits, HoldsRecord, PairFits};
 ghost use Rattle.block.specs.declared.Pair.{Pair};
 ghost use Rattle.block.specs.Slot.{pairAt, endsRise, PowersWithin, pairsRise, holdsAlone, headWhole, FreeFrom};
 
