@@ -73,9 +73,10 @@ nextLine so-far register s = logLine (oneMore (so-far .lines)) s (answerTo regis
 abbrev pub nextRemarkLine : Progress → List ℕ → List ℕ → List ℕ
 nextRemarkLine so-far register s = remarkLine (oneMore (so-far .lines)) s (answerTo register s .answer)
 
--- the progress, the length of the line that was written, and whether it ends the run
+-- the progress, the length of the line that was written, and whether the report was accepted, and ends the run
 abbrev pub loggedAt : Progress → Answer → ℕ → Logged
-loggedAt progress a n = record { progress = progress; length = n; ends = eqb (a .number) 2 }
+loggedAt progress a n =
+    record { progress = progress; length = n; accepted = eqb (a .number) 0; ends = eqb (a .number) 2 }
 
 abbrev pub loggedWith : List ℕ → Progress → Answer → Logged
 loggedWith line so-far a = loggedAt (progressAfter so-far a) a (length line)

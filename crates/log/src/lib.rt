@@ -35,10 +35,11 @@ pub struct Progress {
     pub totals: Totals,
 }
 
-// The progress after a report, the length of its line, and whether it ends the run.
+// The progress after a report, the length of its line, and whether it was accepted, and ends the run.
 pub struct Logged {
     pub progress: Progress,
     pub length: usize,
+    pub accepted: bool,
     pub ends: bool,
 }
 
@@ -282,10 +283,12 @@ fn progress_after(so_far: Progress, a: Answer) -> Progress
 fn logged_at(progress: Progress, a: Answer, length: usize) -> Logged
     ensures { λ r. ⌜ r ≡ loggedAt progress a length ⌝ }
 {
+    let accepted = a.number == 0;
     let ends = a.number == 2;
     Logged {
         progress,
         length,
+        accepted,
         ends,
     }
 }
