@@ -131,6 +131,6 @@ module _ (so-far : Progress) (register input : List ℕ) (ended : Bool) where
         record {
           result = f ∙ rw (first, others .result, left, one, sized);
           lines = lent-left text' (l .length) text'' ∙ ap (λ (z : List ℕ). take (l .length) text' ++ z) (others .lines) ∙ put-dropped ls text' (l .length) ∙ together
-          ∙ rw (first, left, one);
+              ∙ rw (first, left, one);
           left = others .left ∙ rw (first, left);
         }

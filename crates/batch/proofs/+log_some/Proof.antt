@@ -72,9 +72,13 @@ pub +log-some-spec : {M : Type 1} → statement M
     let nothing = ap (before (c .before .before .before .before .before .before .before .before .log-report .result) (c .before .before .before .before .before .before .before .before .before .before .before .before .first-length .result)) (c .before .no-reports3 .ensures) in
     let d = last-done _ _ _ _ _ ((c .before .before .before .before .before .before .before .before .before .before .before .before .first-length .ensures) .1) ((c .before .before .before .before .before .before .before .before .before .before .before .before .first-length .ensures) .0) ((c .before .before .before .before .before .before .before .before .log-report .ensures) .1 .0) ((c .before .before .before .before .before .before .before .before .before .before .before .before .before .before .report-here .ensures))
     (not-false _ ((c .before .before .before .before .before .before .before .before .before .before .before .before .before .if2 .left))) ((c .before .before .before .before .before .before .before .before .log-report .ensures) .1 .1 .0) ((c .before .before .before .before .before .before .before .before .log-report .ensures) .1 .1 .1) _ (omega (arith, (c .before .before .before .before .before .before .before .before .before .before .before .before .before .before .before .if1 .left))) ((c .before .before .if3 .taken))
-    ((c .before-others .ensures) ∙ nothing) in
-    (rw ((c .before-others .ensures) ∙ nothing) (omega (arith, (c .before .before .before .before .before .before .before .before .before .before .before .before .first-length .ensures) .0),
-    omega (arith, (c .before .before .before .before .before .before .before .before .log-report .ensures) .0, (c .before .before .before .before .before .before .before .before .before .before .before .before .before .before .before .before .before .before .before .pre) .1, (c .before .before .before .before .before .before .before .before .before .before .before .before .before .before .before .if1 .left))), (d .result, (d .lines, d .left))))
+    ((c .before-others .ensures) ∙ nothing) in (
+      rw ((c .before-others .ensures) ∙ nothing) (
+        omega (arith, (c .before .before .before .before .before .before .before .before .before .before .before .before .first-length .ensures) .0),
+        omega (arith, (c .before .before .before .before .before .before .before .before .log-report .ensures) .0, (c .before .before .before .before .before .before .before .before .before .before .before .before .before .before .before .before .before .before .before .pre) .1, (c .before .before .before .before .before .before .before .before .before .before .before .before .before .before .before .if1 .left)),
+      ),
+      (d .result, (d .lines, d .left)),
+    ))
     -- need: sub-log-some
     (λ c. search needs)
     (λ c. omega (arith, (c .before .before .before .before .before .before .before .before .before .before .before .first-length .ensures) .0))
@@ -95,7 +99,10 @@ pub +log-some-spec : {M : Type 1} → statement M
     -- need: returns-4
     (λ c. let d = more-done _ _ _ _ _ ((c .before .before .before .before .before .before .before .before .before .before .before .before .before .before .before .before .before .before .before .first-length .ensures) .1) ((c .before .before .before .before .before .before .before .before .before .before .before .before .before .before .before .before .before .before .before .first-length .ensures) .0) ((c .before .before .before .before .before .before .before .before .before .before .before .before .before .before .before .log-report .ensures) .1 .0) ((c .before .before .before .before .before .before .before .before .before .before .before .before .before .before .before .before .before .before .before .before .before .report-here .ensures))
     (not-false _ ((c .before .before .before .before .before .before .before .before .before .before .before .before .before .before .before .before .before .before .before .before .if2 .left))) ((c .before .before .before .before .before .before .before .before .before .before .before .before .before .before .before .log-report .ensures) .1 .1 .0) ((c .before .before .before .before .before .before .before .before .before .before .before .before .before .before .before .log-report .ensures) .1 .1 .1) _ (omega (arith, (c .before .before .before .before .before .before .before .before .before .before .before .before .before .before .before .before .before .before .before .before .before .before .if1 .left))) ((c .before .before .before .before .before .before .before .before .before .if3 .left))
-    (record { result = (c .before .before .before .before .before .log-some .ensures) .1 .0; lines = (c .before .before .before .before .before .log-some .ensures) .1 .1 .0; left = (c .before .before .before .before .before .log-some .ensures) .1 .1 .1 }) ((c .before-others2 .ensures)) in
-    (rw ((c .before-others2 .ensures)) (within-lent (c .before .before .before .before .before .before .before .before .before .before .before .before .before .before .before .before .before .before .before .before .before .before .before .before .before .before .args .input .now) _ _ ((c .before .before .before .before .before .before .before .before .before .before .before .before .before .before .before .before .before .before .before .first-length .ensures) .0) ((c .before .before .before .before .before .log-some .ensures) .0 .0),
-    within-put (c .before .before .before .before .before .before .before .before .before .before .before .before .before .before .before .before .before .before .before .before .before .before .before .before .before .before .args .text .now) _ _ _ ((c .before .before .before .before .before .before .before .before .before .before .before .before .before .before .before .log-report .ensures) .1 .1 .0) (omega (arith, (c .before .before .before .before .before .before .before .before .before .before .before .before .before .before .before .log-report .ensures) .0, (c .before .before .before .before .before .before .before .before .before .before .before .before .before .before .before .before .before .before .before .before .before .before .before .before .before .before .pre) .1, (c .before .before .before .before .before .before .before .before .before .before .before .before .before .before .before .before .before .before .before .before .before .before .if1 .left))) ((c .before .before .before .before .before .log-some .ensures) .0 .1)),
-    (d .result, (d .lines, d .left))))
+    (record { result = (c .before .before .before .before .before .log-some .ensures) .1 .0; lines = (c .before .before .before .before .before .log-some .ensures) .1 .1 .0; left = (c .before .before .before .before .before .log-some .ensures) .1 .1 .1 }) ((c .before-others2 .ensures)) in (
+      rw ((c .before-others2 .ensures)) (
+        within-lent (c .before .before .before .before .before .before .before .before .before .before .before .before .before .before .before .before .before .before .before .before .before .before .before .before .before .before .args .input .now) _ _ ((c .before .before .before .before .before .before .before .before .before .before .before .before .before .before .before .before .before .before .before .first-length .ensures) .0) ((c .before .before .before .before .before .log-some .ensures) .0 .0),
+        within-put (c .before .before .before .before .before .before .before .before .before .before .before .before .before .before .before .before .before .before .before .before .before .before .before .before .before .before .args .text .now) _ _ _ ((c .before .before .before .before .before .before .before .before .before .before .before .before .before .before .before .log-report .ensures) .1 .1 .0) (omega (arith, (c .before .before .before .before .before .before .before .before .before .before .before .before .before .before .before .log-report .ensures) .0, (c .before .before .before .before .before .before .before .before .before .before .before .before .before .before .before .before .before .before .before .before .before .before .before .before .before .before .pre) .1, (c .before .before .before .before .before .before .before .before .before .before .before .before .before .before .before .before .before .before .before .before .before .before .if1 .left))) ((c .before .before .before .before .before .log-some .ensures) .0 .1),
+      ),
+      (d .result, (d .lines, d .left)),
+    ))
