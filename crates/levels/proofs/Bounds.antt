@@ -26,8 +26,9 @@ use Rattle.levels.specs.Pairs.{pairOf, levelAmongPairs}
 use Rattle.levels.specs.Lanes.{laneCount, laneIn, lanePair, laneLevel, levelAmongLanes, laneLevels}
 use Rattle.levels.specs.Extremes.{Covers, Wider, WiderBy, CoversType, extremeLevels, extremesFit}
 use Rattle.levels.specs.Result.{sweepResult}
+use Rattle.levels.proofs.EachLane.{Seen, seen-none, seen-more, seen-past, seen-all}
 
-none-covers : (e : Extremes) → Covers e noLevel
+pub none-covers : (e : Extremes) → Covers e noLevel
 none-covers e = record { there = λ t. absurd (false≢true t); low = λ t. absurd (false≢true t); high = omega arith }
 
 -- the pairs of a lane
@@ -75,75 +76,29 @@ among-covers f e i (suc n) k h =
     (λ t. among-covers f e (i + 1) n k (λ j a b. h j (omega arith) (omega arith)))
 
 -- the lanes of a type
+abbrev pub covering : Extremes → ℕ → Level → Type 0
+covering e k l = Covers e l
+
 module _ (b s : List ℕ) (lanes : List Lane) (type : ℕ) (period : Period) where
-  abbrev level : ℕ → ℕ → Level
-  level i k = laneLevel (laneIn lanes i) (lanePair b s i) type k
+  abbrev pub SeenExtremes : ℕ → Extremes → Type 0
+  SeenExtremes = Seen covering (λ e k. none-covers e) b s lanes type period
 
-  pub record Seen (i : ℕ) (e : Extremes) : Type 0 where
-    pub most : i ≤ laneCount
-    pub before : (j k : ℕ) → j < i → period .start .0 ≤ k → k < period .end .0 → Covers e (level j k)
+  pub extremes-none : {e : Extremes} → SeenExtremes 0 e
+  extremes-none = seen-none covering (λ e k. none-covers e) b s lanes type period
 
-  pub seen-none : {e : Extremes} → Seen 0 e
-  seen-none = record { most = omega arith; before = λ j k l. absurd (omega arith) }
+  module _ {i : ℕ} {e : Extremes} (h : SeenExtremes i e) (l : i < laneCount) where
+    pub extremes-more : {z : List ℕ} {r : Extremes} → z ≡ slotAt b (i - 1)
+        → WiderBy (pairOf s z (eqb i 0)) (laneIn lanes i .count) e r → SeenExtremes (i + 1) r
+    extremes-more {z} {r} read w =
+        seen-more covering (λ e k. none-covers e) b s lanes type period h l read (record { keeps = λ k v c. w .old .keeps v c })
+        (λ k x. among-covers (pairOf s z (eqb i 0)) r 0 (laneIn lanes i .count) k (λ j a o. w .new j (omega arith)))
 
-  module _ {i : ℕ} {e : Extremes} (h : Seen i e) (l : i < laneCount) where
-    seen-next : {r : Extremes} → Wider e r → ((k : ℕ) → period .start .0 ≤ k → k < period .end .0 → Covers r (level i k))
-        → Seen (i + 1) r
-    seen-next {r} w own = record { most = omega arith; before = before } where
-      before : (j k : ℕ) → j < i + 1 → period .start .0 ≤ k → k < period .end .0 → Covers r (level j k)
-      before j k o x y = by-case (eqb j i) refl where
-        by-case : (t : Bool) → eqb j i ≡ t → Covers r (level j k)
-        by-case true t = subst (λ (j : ℕ). Covers r (level j k)) (sym (eqb-true j i t)) (own k x y)
-        by-case false t =
-            let ne = eqb-false j i t in
-            w .keeps _ (h .before j k (omega arith) x y)
+    pub extremes-past : {t : Bool} → t ≡ overlap (laneIn lanes i .period) period
+        → (eqb (laneIn lanes i .«record_type») type && t) ≡ false → SeenExtremes (i + 1) e
+    extremes-past q apart = seen-past covering (λ e k. none-covers e) b s lanes type period h l q apart
 
-    pub seen-more : {z : List ℕ} {r : Extremes} → z ≡ slotAt b (i - 1)
-        → WiderBy (pairOf s z (eqb i 0)) (laneIn lanes i .count) e r → Seen (i + 1) r
-    unfolding laneLevel
-    seen-more {z} {r} read w =
-        let own = subst (λ (z : List ℕ). WiderBy (pairOf s z (eqb i 0)) (laneIn lanes i .count) e r) read w in
-        seen-next (own .old)
-        (λ k x y. pick-elim (λ (v : Level). Covers r v) _
-        (λ t. among-covers (lanePair b s i) r 0 (laneIn lanes i .count) k (λ j a o. own .new j (omega arith)))
-        (λ t. none-covers r))
-
-    pub seen-past : {t : Bool} → t ≡ overlap (laneIn lanes i .period) period → (eqb (laneIn lanes i .«record_type») type && t) ≡
-        false
-        → Seen (i + 1) e
-    unfolding laneLevel
-    seen-past {t} q apart =
-        seen-next (record { keeps = λ v c. c })
-        (λ k x y. pick-elim (λ (v : Level). Covers e v) _
-        (λ holds. absurd (false≢true (sym apart ∙ shared k x y holds)))
-        (λ _. none-covers e))
-      where
-        lane : Lane
-        lane = laneIn lanes i
-
-        shared : (k : ℕ) → period .start .0 ≤ k → k < period .end .0
-            → (eqb (lane .«record_type») type && leb (lane .period .start .0) k && ltb k (lane .period .end .0)) ≡ true
-            → (eqb (lane .«record_type») type && t) ≡ true
-        shared k x y holds =
-            let same = eqb (lane .«record_type») type in
-            let from = leb (lane .period .start .0) k in
-            let started = leb-true (lane .period .start .0) k (and-right same from (and-left (same && from) _ holds)) in
-            let ends = ltb-true k (lane .period .end .0) (and-right (same && from) _ holds) in
-            and-both (and-left same from (and-left (same && from) _ holds))
-            (q ∙ and-both (lt-ltb (lane .period .start .0) (period .end .0) (omega arith)) (lt-ltb (period .start .0)
-            (lane .period .end .0) (omega arith)))
-
-  lanes-cover : (e : Extremes) (i n k : ℕ) → ((j : ℕ) → i ≤ j → j < i + n → Covers e (level j k))
-      → Covers e (levelAmongLanes b s (laneIn lanes) type i n k)
-  unfolding levelAmongLanes
-  lanes-cover e i zero k h = none-covers e
-  lanes-cover e i (suc n) k h =
-      pick-elim (λ (v : Level). Covers e v) (level i k .there)
-      (λ t. h i (omega arith) (omega arith))
-      (λ t. lanes-cover e (i + 1) n k (λ j a b. h j (omega arith) (omega arith)))
-
-  pub seen-all : {i : ℕ} {e : Extremes} → Seen i e → laneCount ≤ i → CoversType b s lanes type period e
-  seen-all {i} {e} h l = record { covers = λ k x y. lanes-cover e 0 laneCount k (λ j a o. h .before j k (omega arith) x y) }
+  pub extremes-all : {i : ℕ} {e : Extremes} → SeenExtremes i e → laneCount ≤ i → CoversType b s lanes type period e
+  extremes-all h l = record { covers = seen-all covering (λ e k. none-covers e) b s lanes type period h l }
 
 -- what fits at the extremes fits between them
 if-there : (a t : Bool) → (a ≡ true → t ≡ true) → (not a || t) ≡ true

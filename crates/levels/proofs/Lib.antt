@@ -4,6 +4,8 @@ pub mod Counted
 pub mod Choosing
 pub mod Turns
 pub mod Stretches
+pub mod EachLane
 pub mod Bounds
+pub mod Asked
 pub mod Within
 pub mod Unforced

@@ -3,11 +3,13 @@ use Prim.Native.Nat.{ℕ, _≤_, _<_}
 use mathlib.Core.Path.{_≡_}
 use mathlib.Core.Bool.{Bool, true, false, not, _&&_}
 use mathlib.Core.List.{List}
-use lib.Dec.{eqb}
+use lib.Dec.{ltb, eqb}
 use lib.ListN.{getD}
-use Rattle.fields.specs.Lists.{all, series}
+use Rattle.fields.specs.Lists.{pick, all, series}
 use Rattle.quantities.specs.declared.Kilowatt.{Kilowatt}
+use Rattle.quantities.specs.declared.Minute.{Minute}
 use Rattle.quantities.specs.declared.Period.{Period}
+use Rattle.quantities.specs.Quantities.{earlierOf}
 use Rattle.rules.specs.declared.Level.{Level}
 use Rattle.rules.specs.declared.Levels.{Levels}
 use Rattle.rules.specs.declared.PowerRange.{PowerRange}
@@ -18,6 +20,7 @@ use Rattle.rules.specs.Minutes.{levelsFit}
 use Rattle.block.specs.declared.Pair.{Pair}
 use Rattle.levels.specs.declared.Extremes.{Extremes}
 use Rattle.levels.specs.declared.Lane.{Lane}
+use Rattle.levels.specs.Pairs.{levelAmongPairs}
 use Rattle.levels.specs.Lanes.{laneCount, laneIn, levelAmongLanes}
 
 -- slot i counts and has forced work; some slot does
@@ -58,3 +61,35 @@ extremeLevels f power p n = record {
 unfoldable pub extremesFit : ℕ → PowerRange → Extremes → Extremes → Extremes → Bool
 extremesFit kind range f p n =
     levelsFit kind range (extremeLevels f (f .highest) p n) && levelsFit kind range (extremeLevels f (f .lowest) p n)
+
+-- a forced level fits beside the highest deratings
+abbrev pub fitsBeside : ℕ → PowerRange → Extremes → Extremes → Kilowatt → Bool
+fitsBeside kind range p n power = extremesFit kind range (record { there = true; lowest = power; highest = power }) p n
+
+unfoldable pub laterOf : Minute → Minute → Minute
+laterOf m n = pick (ltb (m .0) (n .0)) n m
+
+-- the minutes of two periods and those between them
+abbrev pub joinedWith : Period → Minute → Minute → Period
+joinedWith h from to = record { start = earlierOf (h .start) from; end = laterOf (h .end) to }
+
+abbrev pub withUnfit : Period → Minute → Minute → Bool → Period
+withUnfit h from to fit = pick fit h (joinedWith h from to)
+
+pub record MinuteIn (h : Period) (k : ℕ) : Type 0 where
+  pub from : h .start .0 ≤ k
+  pub to : k < h .end .0
+
+-- where there is a level that does not fit, its minute is among those to be asked
+pub record Asks (fit : Kilowatt → Bool) (h : Period) (k : ℕ) (l : Level) : Type 0 where
+  pub inside : l .there ≡ true → fit (l .power) ≡ false → MinuteIn h k
+
+-- r asks what h asks, and the minutes of n pairs from a start on
+pub record AsksBy (fit : Kilowatt → Bool) (f : ℕ → Pair) (n start : ℕ) (h r : Period) : Type 0 where
+  pub old : (k : ℕ) → MinuteIn h k → MinuteIn r k
+  pub new : (k : ℕ) → start ≤ k → Asks fit r k (levelAmongPairs (series f 0 n) k)
+
+-- the levels of a type in every minute of a period
+pub record AsksType (b s : List ℕ) (lanes : List Lane) (type : ℕ) (period : Period) (fit : Kilowatt → Bool) (h : Period) : Type 0 where
+  pub asks : (k : ℕ) → period .start .0 ≤ k → k < period .end .0
+      → Asks fit h k (levelAmongLanes b s (laneIn lanes) type 0 laneCount k)

@@ -24,7 +24,8 @@ ghost use Rattle.levels.specs.Pairs.{pairOf, levelAmongPairs, Passed};
 ghost use Rattle.levels.specs.Counted.{countedRecords, sweptRecords};
 ghost use Rattle.levels.specs.Lanes.{laneCount, noLane, laneOf, reportLane, slotLane, laneAt, laneIn, laneLevel, laneLevels, levelsOf, Stepped, Placed, Held, Chosen, chosenLevels, choiceLevels, spanAt, placeAfter, AheadAll, besideOf, soonest, Ready};
 ghost use Rattle.levels.specs.Result.{withSpan, bothFound, foundIn, Ran, sweepResult};
-ghost use Rattle.levels.specs.Extremes.{someForced, WiderBy, CoversType, extremesFit};
+ghost use Rattle.levels.specs.Extremes.{someForced, WiderBy, CoversType, extremesFit, fitsBeside, laterOf, withUnfit, AsksBy, AsksType};
+ghost use Rattle.rules.specs.Codes.{forcedWork};
 ghost use Rattle.levels.specs.Within.{powerWithin, pairsWithin, slotWithin, forcedWithin, levelWarnings};
 
 // The lanes of a sweep: the report's and one for each slot.
@@ -702,6 +703,101 @@ fn extremes_fit(kind: u8, range: PowerRange, f: Extremes, p: Extremes, n: Extrem
     levels_fit(kind, range, highest) & levels_fit(kind, range, lowest)
 }
 
+fn fits_beside(kind: u8, range: PowerRange, p: Extremes, n: Extremes, power: Kilowatt) -> bool
+    ensures { λ r. ⌜ r ≡ fitsBeside kind range p n power ⌝ }
+{
+    let lowest = power;
+    let highest = power;
+    let f = Extremes {
+        there: true,
+        lowest,
+        highest,
+    };
+    extremes_fit(kind, range, f, p, n)
+}
+
+fn later(m: Minute, n: Minute) -> Minute
+    ensures { λ r. ⌜ r ≡ laterOf m n ⌝ }
+{
+    if m.0 < n.0 { n } else { m }
+}
+
+// The minutes to be asked, with those of a pair whose level does not fit.
+fn with_unfit(asked: Period, from: Minute, to: Minute, fit: bool) -> Period
+    ensures { λ r. ⌜ r ≡ withUnfit asked from to fit ⌝ }
+{
+    if fit {
+        return asked;
+    }
+    let start = quantities::earlier(asked.start, from);
+    let end = later(asked.end, to);
+    Period { start, end }
+}
+
+// A lane's pairs: each begins where the one before it ends.
+fn asked_in(
+    report: &[u8],
+    slot: &[u8],
+    in_report: bool,
+    lane: Lane,
+    kind: u8,
+    range: PowerRange,
+    p: Extremes,
+    n: Extremes,
+    seen: Period,
+) -> Period
+    ensures { λ r. ⌜ AsksBy (fitsBeside kind range p n) (pairOf (now (report .entry)) (now (slot .entry)) «in_report») (lane .count) (lane .period .start .0) seen r ⌝ }
+{
+    let mut asked = seen;
+    let mut from = lane.period.start;
+    for j in 0..lane.count {
+        let pair = pair_of(report, slot, in_report, j);
+        let to = pair.end;
+        let fit = fits_beside(kind, range, p, n, pair.power);
+        asked = with_unfit(asked, from, to, fit);
+        from = to;
+    }
+    asked
+}
+
+// The minutes of a period to be asked: outside them every forced level fits beside the highest deratings.
+fn asked_of(
+    b: &[u8],
+    report: &[u8],
+    lanes: [Lane; 9],
+    period: Period,
+    kind: u8,
+    range: PowerRange,
+    p: Extremes,
+    n: Extremes,
+) -> Period
+    ensures { λ r. ⌜ AsksType (now (b .entry)) (now (report .entry)) lanes forcedWork period (fitsBeside kind range p n) r ⌝ }
+{
+    let start = Minute(4294967295);
+    let end = Minute(0);
+    let mut asked = Period { start, end };
+    let mut i = 0u8;
+    while i < LANE_COUNT {
+        let at = i;
+        i += 1;
+        let lane = lanes[at as usize];
+        if (lane.record_type == FORCED_WORK) & quantities::overlapping(lane.period, period) {
+            asked = asked_in(
+                report,
+                lane_slot(b, at),
+                at == 0,
+                lane,
+                kind,
+                range,
+                p,
+                n,
+                asked,
+            );
+        }
+    }
+    asked
+}
+
 // Some slot that counts has forced work.
 fn some_forced(b: &[u8], counted: [bool; 8]) -> bool
     ensures { λ r. ⌜ r ≡ someForced (now (b .entry)) counted ⌝ }
@@ -714,7 +810,8 @@ fn some_forced(b: &[u8], counted: [bool; 8]) -> bool
     !none
 }
 
-// Question 17 in every minute of a period, of the records of one direction. Only where the extremes do not fit is it swept.
+// Question 17 in every minute of a period, of the records of one direction. Swept are only minutes between forced levels that do not
+// fit beside the highest deratings.
 pub fn fits(
     b: &[u8],
     report: &[u8],
@@ -741,7 +838,10 @@ pub fn fits(
     if extremes_fit(kind, range, forced, positive, negative) {
         return true;
     }
-    sweep_lanes(b, report, lanes, period, kind, range).fits
+    let asked = asked_of(b, report, lanes, period, kind, range, positive, negative);
+    let start = later(period.start, asked.start);
+    let end = quantities::earlier(period.end, asked.end);
+    sweep_lanes(b, report, lanes, Period { start, end }, kind, range).fits
 }
 
 // What warnings 2 and 4 ask of a level itself.
