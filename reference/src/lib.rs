@@ -38,5 +38,5 @@ pub use calendar::date;
 pub use processor::{answer, Answer};
 pub use remark::remark;
 pub use setup::set_up;
-pub use shift_log::{remarks, shift_log};
+pub use shift_log::{register_log, remarks, shift_log};
 pub use stand_alone::StandAloneBlocks;

@@ -85,6 +85,14 @@ pub fn remarks(input: &[u8]) -> Vec<u8> {
     log(input, Ending::Remark)
 }
 
+/// The log of reports on a register that is there, which they bring up to date.
+pub fn register_log(register: &mut [u8], reports: &[u8]) -> Vec<u8> {
+    let mut log = Vec::new();
+    let mut reader = Reader { input: reports };
+    put_reports(&mut log, &mut reader, register, Ending::Stamp);
+    log
+}
+
 fn log(input: &[u8], ending: Ending) -> Vec<u8> {
     let mut reader = Reader { input };
     let mut log = Vec::new();
