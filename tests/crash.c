@@ -443,11 +443,11 @@ int unlink(const char *path) {
     return (int)done(result);
 }
 
-/* For writing it may make a file, or cut one. */
+/* One that may make a file or cut it is counted apart from one that only looks a file up. */
 static int open_counted(int folder, const char *path, int flags, mode_t mode) {
-    int writes = (flags & O_ACCMODE) != O_RDONLY, made = (flags & O_CREAT) && !is_there(path), result;
+    int changes = (flags & (O_CREAT | O_TRUNC)) != 0, made = (flags & O_CREAT) && !is_there(path), result;
     struct change *change = NULL;
-    if (!step(writes ? "open" : "open-read", path))
+    if (!step(changes ? "create" : "open", path))
         return -1;
     if (active && made)
         change = prepare_change("", path);

@@ -56,7 +56,12 @@ fn print(lines: &[u8]) -> Result<(), String> {
 /// The register's own path, its bytes and its permissions.
 fn read_register(path: &Path) -> Result<(PathBuf, Vec<u8>, fs::Permissions), String> {
     let cant_read = cannot("the register can't be read");
-    let path = fs::canonicalize(path).map_err(&cant_read)?;
+    let real = fs::canonicalize(path).map_err(&cant_read)?;
+    let path = if wrong("replaces_link") {
+        path.to_path_buf()
+    } else {
+        real
+    };
     let status = path.metadata().map_err(&cant_read)?;
     if !status.is_file() {
         return Err("register_file: the register is no file".to_string());
@@ -64,7 +69,9 @@ fn read_register(path: &Path) -> Result<(PathBuf, Vec<u8>, fs::Permissions), Str
     let mut bytes = Vec::new();
     let most = (MAX_UNITS * BLOCK_SIZE + 1) as u64;
     let file = File::open(&path).map_err(&cant_read)?;
-    file.take(most).read_to_end(&mut bytes).map_err(&cant_read)?;
+    file.take(most)
+        .read_to_end(&mut bytes)
+        .map_err(&cant_read)?;
     if !question_1_register_whole(&bytes) && !wrong("trusts") {
         return Err("register 1: the register is not whole".to_string());
     }
@@ -165,8 +172,13 @@ fn read_more(pending: &mut Vec<u8>) -> Result<usize, String> {
 fn replace(path: &Path, bytes: &[u8], mode: Option<fs::Permissions>) -> Result<(), String> {
     let cant_write = cannot("the register can't be written");
     if wrong("writes_in_place") {
-        let written = fs::OpenOptions::new().write(true).create(true).truncate(false).open(path);
-        let written = written.and_then(|mut file| file.write_all(bytes).and_then(|()| file.sync_all()));
+        let written = fs::OpenOptions::new()
+            .write(true)
+            .create(true)
+            .truncate(false)
+            .open(path);
+        let written =
+            written.and_then(|mut file| file.write_all(bytes).and_then(|()| file.sync_all()));
         return written.map_err(cant_write);
     }
     let new = PathBuf::from(format!("{}.new", path.display()));
@@ -180,7 +192,9 @@ fn replace(path: &Path, bytes: &[u8], mode: Option<fs::Permissions>) -> Result<(
     }
     let folder = path.parent().filter(|folder| *folder != Path::new(""));
     let folder = File::open(folder.unwrap_or(Path::new(".")));
-    folder.and_then(|folder| folder.sync_all()).map_err(cant_write)
+    folder
+        .and_then(|folder| folder.sync_all())
+        .map_err(cant_write)
 }
 
 fn write_new(new: &Path, bytes: &[u8], mode: Option<fs::Permissions>) -> Result<(), Error> {
@@ -188,14 +202,18 @@ fn write_new(new: &Path, bytes: &[u8], mode: Option<fs::Permissions>) -> Result<
         let _ = fs::remove_file(new);
     }
     let mut file = File::create_new(new)?;
-    if let Some(mode) = mode {
+    if let Some(mode) = mode.filter(|_| !wrong("forgets_mode")) {
         file.set_permissions(mode)?;
     }
     let written = file.write_all(bytes);
     if !wrong("ignores_failed_write") {
         written?;
     }
-    let synced = if wrong("no_file_sync") { Ok(()) } else { file.sync_all() };
+    let synced = if wrong("no_file_sync") {
+        Ok(())
+    } else {
+        file.sync_all()
+    };
     if wrong("ignores_failed_sync") {
         return Ok(());
     }

@@ -8,6 +8,7 @@ mod given_registers;
 mod minutes;
 mod question_1;
 mod questions;
+mod register_faults;
 mod remark;
 mod sample_files;
 mod set_up;

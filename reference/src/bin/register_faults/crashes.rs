@@ -37,7 +37,11 @@ fn faults_at(trial: &mut Trial, calls: &[Call], at: usize) -> Vec<Fault> {
     let mut faults = Vec::new();
     for &kind in kinds {
         if at <= calls.len() {
-            faults.push(Fault { kind, at, power: None });
+            faults.push(Fault {
+                kind,
+                at,
+                power: None,
+            });
         }
         for _ in 0..LOSSES {
             let power = Some(trial.random.bits() as u32);
@@ -104,7 +108,10 @@ fn crash(
         "" => found.and_then(|done| trial.goes_on(scenario, done, &path)),
         said => Err(other(format!("it said {said:?}"))),
     };
-    let case = format!("{fault}, {} units, {read} bytes at a time", scenario.units());
+    let case = format!(
+        "{fault}, {} units, {read} bytes at a time",
+        scenario.units()
+    );
     trial.tally.count(name(fault), &case, found);
     Ok(())
 }

@@ -14,7 +14,17 @@ pub fn every_call(trial: &mut Trial) -> Result<(), String> {
         let calls = trial.calls(&scenario, read)?;
         for (call, at) in calls.iter().zip(1..) {
             for &kind in kinds(call) {
-                failure(trial, &scenario, call, Fault { kind, at, power: None }, read)?;
+                failure(
+                    trial,
+                    &scenario,
+                    call,
+                    Fault {
+                        kind,
+                        at,
+                        power: None,
+                    },
+                    read,
+                )?;
             }
             if trial.tally.enough() {
                 return Ok(());
@@ -37,7 +47,17 @@ pub fn some_call(trial: &mut Trial) -> Result<(), String> {
                 let at = trial.random.between(1..=calls.len() as u32) as usize;
                 let call = &calls[at - 1];
                 let kind = trial.random.pick(kinds(call));
-                failure(trial, &scenario, call, Fault { kind, at, power: None }, read)?;
+                failure(
+                    trial,
+                    &scenario,
+                    call,
+                    Fault {
+                        kind,
+                        at,
+                        power: None,
+                    },
+                    read,
+                )?;
             }
             if trial.tally.enough() {
                 return Ok(());
@@ -61,8 +81,13 @@ pub fn kinds(call: &Call) -> &'static [Kind] {
             Lasting(NoSpace),
             Fail(Interrupted),
         ],
-        "open" | "rename" | "link" => &[Fail(NoSpace), Fail(Device), Fail(Interrupted)],
-        "fsync" => &[Fail(NoSpace), Fail(Device), Lasting(Device), Fail(Interrupted)],
+        "create" | "rename" | "link" => &[Fail(NoSpace), Fail(Device), Fail(Interrupted)],
+        "fsync" => &[
+            Fail(NoSpace),
+            Fail(Device),
+            Lasting(Device),
+            Fail(Interrupted),
+        ],
         _ => &[Fail(Device), Fail(Interrupted)],
     }
 }
@@ -99,9 +124,15 @@ fn failure(
     let found = if came_about(&trial.room, fault, call) {
         judge(trial, scenario, &run, may_pass(call, fault.kind), &path)
     } else {
-        Err(other(format!("the call was not reached; it said {:?}", run.err)))
+        Err(other(format!(
+            "the call was not reached; it said {:?}",
+            run.err
+        )))
     };
-    let case = format!("{fault} ({call:?}), {} units, {read} bytes at a time", scenario.units());
+    let case = format!(
+        "{fault} ({call:?}), {} units, {read} bytes at a time",
+        scenario.units()
+    );
     trial.tally.count(name(call, fault.kind), &case, found);
     Ok(())
 }

@@ -63,7 +63,7 @@ impl Call {
 
     /// Whether it can change a file or a folder.
     pub fn changes(&self) -> bool {
-        let reads = ["read", "open-read", "fstat", "fsync"];
+        let reads = ["read", "open", "fstat", "fsync"];
         !self.prints() && !reads.contains(&self.name.as_str())
     }
 
@@ -74,7 +74,15 @@ impl Call {
 
     /// Whether the register may be lost or old if it fails, so that the failure must be told.
     pub fn carries_the_register(&self) -> bool {
-        let carriers = ["write", "print", "open", "fsync", "rename", "link", "ftruncate"];
+        let carriers = [
+            "write",
+            "print",
+            "create",
+            "fsync",
+            "rename",
+            "link",
+            "ftruncate",
+        ];
         carriers.contains(&self.name.as_str())
     }
 }

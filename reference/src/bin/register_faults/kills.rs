@@ -45,7 +45,9 @@ pub fn some_time(trial: &mut Trial) -> Result<(), String> {
         0 => Err(other("no kill came after a line")),
         _ => Ok(()),
     };
-    trial.tally.count("some kills came after a line", "all", found);
+    trial
+        .tally
+        .count("some kills came after a line", "all", found);
     Ok(())
 }
 
@@ -91,7 +93,11 @@ fn kill_after(
 ) -> Result<usize, String> {
     let path = trial.register(&scenario.register)?;
     let child = start(&mut trial.desk_answer(&path))?;
-    let name = trial.program.file_name().unwrap_or_default().to_string_lossy();
+    let name = trial
+        .program
+        .file_name()
+        .unwrap_or_default()
+        .to_string_lossy();
     let killed = killed(child, &scenario.stream(), after, group, &name);
     let found = judge(trial, scenario, &killed, &path);
     let case = format!("after {after:?}, {} units", scenario.units());
@@ -137,19 +143,31 @@ fn killed(mut child: Child, stream: &[u8], after: Duration, group: bool, name: &
     })
 }
 
-/// Whether a child of ./desk is the program by now.
-fn runs(id: u32, name: &str) -> bool {
-    let children = std::fs::read_to_string(format!("/proc/{id}/task/{id}/children"));
-    let children = children.unwrap_or_default();
-    let mut names = children.split_whitespace().map(|child| {
-        let name = std::fs::read_to_string(format!("/proc/{child}/comm"));
-        name.unwrap_or_default()
-    });
+/// Whether the program is among the processes of a group by now.
+fn runs(group: u32, name: &str) -> bool {
     // The kernel keeps 15 bytes of a name.
-    names.any(|comm| comm.trim_end() == &name[..name.len().min(15)])
+    let name = &name[..name.len().min(15)];
+    let processes = std::fs::read_dir("/proc").into_iter().flatten().flatten();
+    let mut states =
+        processes.filter_map(|process| std::fs::read_to_string(process.path().join("stat")).ok());
+    states.any(|state| is_program(&state, group, name))
 }
 
-fn judge(trial: &Trial, scenario: &Scenario, killed: &Killed, path: &Path) -> Result<(), Complaint> {
+/// "id (name) state parent group ..".
+fn is_program(state: &str, group: u32, name: &str) -> bool {
+    let Some((start, rest)) = state.rsplit_once(')') else {
+        return false;
+    };
+    let in_group = rest.split_whitespace().nth(2) == Some(&group.to_string());
+    in_group && start.split_once('(').is_some_and(|(_, comm)| comm == name)
+}
+
+fn judge(
+    trial: &Trial,
+    scenario: &Scenario,
+    killed: &Killed,
+    path: &Path,
+) -> Result<(), Complaint> {
     let file = std::fs::read(path).map_err(|_| Complaint::Torn)?;
     let fed = scenario.fed(killed.fed);
     let done = scenario.reached(&killed.run.out, fed, &file)?;

@@ -20,7 +20,7 @@ use std::process::ExitCode;
 use std::time::Instant;
 use trial::Trial;
 
-const USE: &str = "use: register_faults DESK PROGRAM [ROUNDS [SEED]]";
+const USE: &str = "use: register_faults DESK PROGRAM [ROUNDS [SEED [STAGE]]]";
 
 /// A stage: its name and what it does.
 type Stage = (&'static str, fn(&mut Trial) -> Result<(), String>);
@@ -52,7 +52,7 @@ fn main() -> ExitCode {
     }
 }
 
-fn arguments() -> Result<Trial, String> {
+fn arguments() -> Result<(Trial, Vec<Stage>), String> {
     let words: Vec<String> = std::env::args().skip(1).collect();
     let number = |place: usize, default: u64| match words.get(place) {
         Some(word) => word.parse().map_err(|_| USE.to_string()),
@@ -60,18 +60,30 @@ fn arguments() -> Result<Trial, String> {
     };
     let (rounds, seed) = (number(2, 1)?, number(3, 20_260_301)?);
     match words.as_slice() {
-        [desk, program, ..] if words.len() <= 4 => {
+        [desk, program, ..] if words.len() <= 5 => {
             println!("seed {seed}, rounds {rounds}");
-            Trial::of(desk, program, rounds as u32, Random::new(seed))
+            let trial = Trial::of(desk, program, rounds as u32, Random::new(seed))?;
+            Ok((trial, stages(words.get(4))?))
         }
         _ => Err(USE.to_string()),
     }
 }
 
+/// All stages, or the one of a name.
+fn stages(name: Option<&String>) -> Result<Vec<Stage>, String> {
+    let wanted = |stage: &Stage| name.is_none_or(|name| stage.0 == name);
+    let stages: Vec<Stage> = STAGES.into_iter().filter(wanted).collect();
+    if stages.is_empty() {
+        let names = STAGES.map(|(name, _)| name).join("\n  ");
+        return Err(format!("the stages are\n  {names}"));
+    }
+    Ok(stages)
+}
+
 /// How many stages failed.
-fn run_all(mut trial: Trial) -> Result<usize, String> {
+fn run_all((mut trial, stages): (Trial, Vec<Stage>)) -> Result<usize, String> {
     let mut failed = 0;
-    for (name, stage) in STAGES {
+    for &(name, stage) in &stages {
         trial.tally.start_stage();
         let (start, before) = (Instant::now(), trial.tally.tried());
         stage(&mut trial)?;
@@ -85,7 +97,7 @@ fn run_all(mut trial: Trial) -> Result<usize, String> {
         failed += usize::from(verdict != "ok" || cases == 0);
     }
     trial.tally.print();
-    let passed = STAGES.len() - failed;
+    let passed = stages.len() - failed;
     let verdict = if failed == 0 { "ok" } else { "FAILED" };
     println!("test result: {verdict}. {passed} passed; {failed} failed");
     Ok(failed)

@@ -51,7 +51,11 @@ fn all_ways(trial: &mut Trial, scenario: &Scenario) -> Result<(), String> {
     for way in ways {
         let path = trial.register(&scenario.register)?;
         let found = one_way(trial, scenario, way, &path)?;
-        let case = format!("{way:?}, {} units, {} reports", scenario.units(), scenario.reports.len());
+        let case = format!(
+            "{way:?}, {} units, {} reports",
+            scenario.units(),
+            scenario.reports.len()
+        );
         trial.tally.count("without faults", &case, found);
     }
     Ok(())

@@ -46,7 +46,8 @@ impl Run {
 
     /// Killed by the fault that was meant to.
     pub fn killed(&self) -> bool {
-        self.status.is_some_and(|status| status.signal() == Some(SIGKILL))
+        self.status
+            .is_some_and(|status| status.signal() == Some(SIGKILL))
     }
 
     /// One plain line on standard error.
@@ -76,7 +77,10 @@ impl Run {
             [] => Ok(()),
             // The header may be out before the register is looked at.
             b"no unit answer warn stamp\n" => Ok(()),
-            _ => Err(format!("it printed {:?}", self.out.escape_ascii().to_string())),
+            _ => Err(format!(
+                "it printed {:?}",
+                self.out.escape_ascii().to_string()
+            )),
         }
     }
 }

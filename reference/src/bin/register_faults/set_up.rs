@@ -72,7 +72,10 @@ pub fn refusals(trial: &mut Trial) -> Result<(), String> {
         ("an entry cut short", good[..ENTRY_SIZE + 1].to_vec()),
         ("65 entries", good[..ENTRY_SIZE].repeat(MAX_UNITS + 1)),
         ("entries and a byte", [&good[..], &[0]].concat()),
-        ("reports", reference::worked_examples::roster_a_reports().concat()),
+        (
+            "reports",
+            reference::worked_examples::roster_a_reports().concat(),
+        ),
         ("64 entries", good[..ENTRY_SIZE].repeat(MAX_UNITS)),
         ("a million bytes", vec![0x4A; 1_000_000]),
     ];
@@ -93,12 +96,16 @@ fn one_roster(trial: &mut Trial, name: &str, roster: &[u8]) {
             return made(&run, roster, &path);
         }
         not_made(&run, &path)?;
-        match run.err.starts_with("roster 20: ") {
+        match run.err.contains("roster 20: ") {
             true => Ok(()),
             false => Err(other(format!("it said {:?}", run.err))),
         }
     });
-    let kind = if good { "set-up of a good roster" } else { "set-up of a bad roster" };
+    let kind = if good {
+        "set-up of a good roster"
+    } else {
+        "set-up of a bad roster"
+    };
     trial.tally.count(kind, name, found);
 }
 
@@ -115,12 +122,19 @@ fn existing(trial: &mut Trial, roster: &[u8]) {
         let case = format!("{} bytes", bytes.len());
         trial.tally.count("set-up where a file is", &case, found);
     }
-    for (case, put) in [("a folder", put_folder as fn(&Path)), ("a link to nothing", put_link)] {
+    for (case, put) in [
+        ("a folder", put_folder as fn(&Path)),
+        ("a link to nothing", put_link),
+    ] {
         let path = trial.room.case().join("register");
         put(&path);
         let found = set_up(trial, roster, &path).and_then(|run| run.refused().map_err(other));
         let target = path.with_file_name("target").exists();
-        let found = found.and(if target { Err(other("the target was made")) } else { Ok(()) });
+        let found = found.and(if target {
+            Err(other("the target was made"))
+        } else {
+            Ok(())
+        });
         trial.tally.count("set-up where a file is", case, found);
     }
 }
@@ -139,13 +153,22 @@ fn no_roster_file(trial: &mut Trial, roster: &[u8]) {
     let paths: [(&str, PathBuf, PathBuf); 4] = [
         ("no roster", case.join("missing"), case.join("register")),
         ("a folder as roster", case.clone(), case.join("register")),
-        ("no folder", case.join("roster"), case.join("missing/register")),
+        (
+            "no folder",
+            case.join("roster"),
+            case.join("missing/register"),
+        ),
         ("an empty name", case.join("roster"), PathBuf::new()),
     ];
     for (name, roster, path) in paths {
-        let run = run(trial.desk("set-up").arg(roster).arg(&path), Input::File(&[]));
+        let run = run(
+            trial.desk("set-up").arg(roster).arg(&path),
+            Input::File(&[]),
+        );
         let found = run.map_err(other).and_then(|run| not_made(&run, &path));
-        trial.tally.count("set-up without a roster or a folder", name, found);
+        trial
+            .tally
+            .count("set-up without a roster or a folder", name, found);
     }
 }
 
@@ -162,10 +185,15 @@ fn both_at_once(trial: &mut Trial) {
         let runs = thread::scope(|scope| {
             let first = scope.spawn(|| one(&files[0]));
             let second = one(&files[1]);
-            [first.join().unwrap_or(Err("a run was lost".to_string())), second]
+            [
+                first.join().unwrap_or(Err("a run was lost".to_string())),
+                second,
+            ]
         });
         let found = one_won(&runs, &rosters, &path);
-        trial.tally.count("two set-ups at once", "1 and 8 units", found);
+        trial
+            .tally
+            .count("two set-ups at once", "1 and 8 units", found);
     }
 }
 
@@ -178,7 +206,11 @@ fn one_won(
         return Err(other("a run was lost"));
     };
     let [first, second] = rosters;
-    let (won, lost, roster) = if one.good() { (one, two, first) } else { (two, one, second) };
+    let (won, lost, roster) = if one.good() {
+        (one, two, first)
+    } else {
+        (two, one, second)
+    };
     lost.refused().map_err(other)?;
     made(won, roster, path)
 }
@@ -192,7 +224,16 @@ pub fn faults(trial: &mut Trial) -> Result<(), String> {
             killed_at(trial, &roster, &calls, at)?;
             if let Some(call) = calls.get(at - 1) {
                 for &kind in kinds(call) {
-                    failing(trial, &roster, call, Fault { kind, at, power: None })?;
+                    failing(
+                        trial,
+                        &roster,
+                        call,
+                        Fault {
+                            kind,
+                            at,
+                            power: None,
+                        },
+                    )?;
                 }
             }
             if trial.tally.enough() {
@@ -212,7 +253,9 @@ fn calls(trial: &Trial, roster: &[u8]) -> Result<Vec<Call>, String> {
 }
 
 fn killed_at(trial: &mut Trial, roster: &[u8], calls: &[Call], at: usize) -> Result<(), String> {
-    let changes = calls.get(at - 1).is_none_or(|call| call.changes() || call.name == "fsync");
+    let changes = calls
+        .get(at - 1)
+        .is_none_or(|call| call.changes() || call.name == "fsync");
     let writes = calls.get(at - 1).is_some_and(Call::writes);
     for kind in [Kind::Before, Kind::Half, Kind::After] {
         if !(changes || writes) || (kind == Kind::Half && !writes) {
@@ -241,12 +284,7 @@ fn killed_at(trial: &mut Trial, roster: &[u8], calls: &[Call], at: usize) -> Res
 }
 
 /// A line that was printed means a register; without one set-up is tried again.
-fn all_or_nothing(
-    trial: &Trial,
-    run: &Run,
-    roster: &[u8],
-    path: &Path,
-) -> Result<(), Complaint> {
+fn all_or_nothing(trial: &Trial, run: &Run, roster: &[u8], path: &Path) -> Result<(), Complaint> {
     let line = said(roster.len() / ENTRY_SIZE);
     if !line.as_bytes().starts_with(&run.out) {
         return Err(other("it printed something else"));
@@ -268,7 +306,10 @@ fn failing(trial: &mut Trial, roster: &[u8], call: &Call, fault: Fault) -> Resul
     with_fault(&mut command, fault);
     let run = run(&mut command, Input::File(&[]))?;
     let found = if !came_about(&trial.room, fault, call) {
-        Err(other(format!("the call was not reached; it said {:?}", run.err)))
+        Err(other(format!(
+            "the call was not reached; it said {:?}",
+            run.err
+        )))
     } else if run.good() && may_pass(call, fault.kind) {
         made(&run, roster, &path)
     } else {
@@ -276,6 +317,8 @@ fn failing(trial: &mut Trial, roster: &[u8], call: &Call, fault: Fault) -> Resul
         refused.and_then(|()| all_or_nothing(trial, &run, roster, &path))
     };
     let case = format!("{fault} ({call:?})");
-    trial.tally.count(&format!("set-up: {}", name(call, fault.kind)), &case, found);
+    trial
+        .tally
+        .count(&format!("set-up: {}", name(call, fault.kind)), &case, found);
     Ok(())
 }

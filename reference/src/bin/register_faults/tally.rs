@@ -62,7 +62,10 @@ impl Tally {
 
     /// Prints the table.
     pub fn print(&self) {
-        println!("  {:<44} {:>6} {:>10} {:>6} {:>6}", "", "tried", "lost lines", "torn", "other");
+        println!(
+            "  {:<44} {:>6} {:>10} {:>6} {:>6}",
+            "", "tried", "lost lines", "torn", "other"
+        );
         let mut all = Row::default();
         for (kind, row) in &self.rows {
             print_row(kind, row);
@@ -76,6 +79,11 @@ impl Tally {
 }
 
 fn print_row(kind: &str, row: &Row) {
-    let Row { tried, lost, torn, other } = row;
+    let Row {
+        tried,
+        lost,
+        torn,
+        other,
+    } = row;
     println!("  {kind:<44} {tried:>6} {lost:>10} {torn:>6} {other:>6}");
 }

@@ -27,7 +27,10 @@ pub fn writers(trial: &mut Trial) -> Result<(), String> {
             }
         }
     }
-    for (held, kind) in [(300, "a writer waits for another"), (4_000, "a writer is told of another")] {
+    for (held, kind) in [
+        (300, "a writer waits for another"),
+        (4_000, "a writer is told of another"),
+    ] {
         let (one, other) = two_streams(trial, 2);
         let path = trial.register(&one.register)?;
         let found = behind(trial, &one, &other, Duration::from_millis(held), &path);
@@ -57,7 +60,10 @@ fn at_once(trial: &Trial, one: &Scenario, other: &Scenario, path: &Path) -> Resu
         (first.join(), second)
     });
     let first = first.map_err(|_| crate::trial::other("a run was lost"))?;
-    let (first, second) = (first.map_err(crate::trial::other)?, second.map_err(crate::trial::other)?);
+    let (first, second) = (
+        first.map_err(crate::trial::other)?,
+        second.map_err(crate::trial::other)?,
+    );
     let file = std::fs::read(path).map_err(|_| Complaint::Torn)?;
     in_turn((one, &first), (other, &second), &file)
         .or_else(|_| in_turn((other, &second), (one, &first), &file))
@@ -71,7 +77,10 @@ fn in_turn(
 ) -> Result<(), Complaint> {
     let (log, register) = one.outcome();
     if !first.good() || first.out != log {
-        return Err(other(format!("not in turn: {:?} and {:?}", first.err, run.err)));
+        return Err(other(format!(
+            "not in turn: {:?} and {:?}",
+            first.err, run.err
+        )));
     }
     let then = Scenario {
         register: register.clone(),
@@ -116,7 +125,9 @@ fn behind(
         thread::sleep(held);
         took_it &= fed(&mut stdin, late);
         drop(stdin.take());
-        second.join().unwrap_or((Err("a run was lost".to_string()), LONG))
+        second
+            .join()
+            .unwrap_or((Err("a run was lost".to_string()), LONG))
     });
     let (first, second) = (collect(child), second.map_err(other)?);
     let file = std::fs::read(path).map_err(|_| Complaint::Torn)?;
@@ -138,7 +149,9 @@ pub fn reader(trial: &mut Trial) -> Result<(), String> {
             let path = trial.register(&scenario.register)?;
             let (written, copies) = copied_during(trial, &scenario, &path);
             let found = written.and_then(|run| agrees(&scenario, &run, &path));
-            trial.tally.count("read during writes", &format!("{units} units"), found);
+            trial
+                .tally
+                .count("read during writes", &format!("{units} units"), found);
             in_order(trial, &scenario, &copies);
         }
     }

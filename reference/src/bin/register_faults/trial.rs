@@ -109,7 +109,10 @@ impl Trial {
 pub fn agrees(scenario: &Scenario, run: &Run, path: &Path) -> Result<(), Complaint> {
     let (log, register) = scenario.outcome();
     if !run.good() {
-        return Err(other(format!("status {:?}, it said {:?}", run.status, run.err)));
+        return Err(other(format!(
+            "status {:?}, it said {:?}",
+            run.status, run.err
+        )));
     }
     if run.out != log {
         let shown = String::from_utf8_lossy(&run.out).into_owned();
