@@ -28,7 +28,7 @@ run() {
 
 open_file() {
   [ "$1" != - ] || return 0
-  [ -f "$1" ] && [ -r "$1" ] || fail "can't be read: $1"
+  if [ ! -f "$1" ] || [ ! -r "$1" ]; then fail "can't be read: $1"; fi
   exec < "$1"
 }
 
