@@ -1,5 +1,7 @@
 //! The test of the register on disk tells wrong programs; a stand-in plays them.
 
+use reference::answer;
+use reference::source::Source;
 use std::path::Path;
 use std::process::{Command, Output};
 
@@ -55,4 +57,23 @@ fn a_right_one_passes() {
         let result = "test result: ok. 1 passed; 0 failed\n";
         assert!(printed.ends_with(result), "{printed}");
     }
+}
+
+/// What docs/OPERATING.md tells the keeper to do after a crash.
+#[test]
+fn an_accepted_report_sent_again_is_refused() {
+    let mut numbers = std::collections::BTreeSet::new();
+    for seed in 0..2_000 {
+        let mut source = Source::new(seed, 4);
+        let mut register = source.register().to_vec();
+        for _ in 0..30 {
+            let report = source.report();
+            if answer(&mut register, &report).number == 0 {
+                let before = register.clone();
+                numbers.insert(answer(&mut register, &report).number);
+                assert!(register == before);
+            }
+        }
+    }
+    assert_eq!(numbers.into_iter().collect::<Vec<_>>(), [11, 12, 13, 18]);
 }
