@@ -19,7 +19,7 @@ told() {
 # one_line WHAT: the one plain line on standard error
 one_line() {
   told "$1: it said $(cat "$room/err")" [ "$(wc -l < "$room/err")" -eq 1 ]
-  told "$1: not a plain line: $(cat "$room/err")" grep -qE '^(desk|register_file): [ -~]+$|^(register|roster) [0-9]+: [ -~]+$' "$room/err"
+  told "$1: not a plain line: $(cat "$room/err")" grep -qE '^(desk|register_file|register 1|roster 20): [ -~]+$' "$room/err"
 }
 
 # refused STATUS COMMAND..: one line, the status, no line of the log but its header
@@ -89,7 +89,8 @@ answers() {
   fresh f roster-e
   head -c 330 "$room/reports-e" > "$room/some"
   "$desk" answer "$room/f" "$room/some" > "$room/out"
-  told 'no reports: another log' cmp <("$desk" answer "$room/f" "$room/nothing") <(printf 'no unit answer warn stamp\ntotal 0 0 0\n')
+  printf 'no unit answer warn stamp\ntotal 0 0 0\n' > "$room/no-lines"
+  told 'no reports: another log' cmp <("$desk" answer "$room/f" "$room/nothing") "$room/no-lines"
   told 'no line 1 in a second run' grep -q '^1 1 ' <("$desk" answer "$room/f" "$room/reports-e")
   told 'a name with a space, from another folder' mv "$room/f" "$room/the register"
   (cd "$room" && "$desk" answer 'the register' nothing) > "$room/out" 2> "$room/err"
@@ -131,7 +132,10 @@ limited_size() {
 # a file system with room for one register and not for two; only root can make one
 full_disk() {
   mkdir "$small"
-  mount -t tmpfs -o size=24k tmpfs "$small" 2> /dev/null || { echo 'register_file.sh: no small file system here, not tried'; return; }
+  if ! mount -t tmpfs -o size=24k tmpfs "$small" 2> /dev/null; then
+    echo 'register_file.sh: no small file system can be made here, not tried'
+    return
+  fi
   "$desk" set-up "$room/roster-a" "$small/a" > "$room/out"
   cp "$small/a" "$room/before"
   refused 1 "$desk" answer "$small/a" "$room/reports-a"

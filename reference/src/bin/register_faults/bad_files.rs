@@ -137,10 +137,13 @@ fn no_files(trial: &Trial) -> Vec<(&'static str, PathBuf)> {
     ]
 }
 
+/// One of them.
+type Surrounding = fn(&Trial, &Scenario) -> Result<(), Complaint>;
+
 /// Links, modes, folders and files that others can't write, and files that a crash left.
 pub fn surroundings(trial: &mut Trial) -> Result<(), String> {
     let scenario = Scenario::random(&mut trial.random, 2, 30);
-    let cases: [(&str, fn(&Trial, &Scenario) -> Result<(), Complaint>); 7] = [
+    let cases: [(&str, Surrounding); 7] = [
         ("a link stays", link_stays),
         ("a link in another folder", link_elsewhere),
         ("the mode is kept", mode_kept),

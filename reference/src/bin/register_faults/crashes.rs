@@ -6,7 +6,7 @@ use crate::scenario::{Complaint, Scenario};
 use crate::trial::{other, Trial, UNITS};
 
 /// Power is lost so often at each call, each time differently.
-const LOSSES: u32 = 3;
+const LOSSES: u32 = 2;
 
 /// Every call of a short run.
 pub fn every_call(trial: &mut Trial) -> Result<(), String> {

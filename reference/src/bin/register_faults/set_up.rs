@@ -258,7 +258,7 @@ fn killed_at(trial: &mut Trial, roster: &[u8], calls: &[Call], at: usize) -> Res
         .is_none_or(|call| call.changes() || call.name == "fsync");
     let writes = calls.get(at - 1).is_some_and(Call::writes);
     for kind in [Kind::Before, Kind::Half, Kind::After] {
-        if !(changes || writes) || (kind == Kind::Half && !writes) {
+        if !writes && (!changes || kind == Kind::Half) {
             continue;
         }
         let power = Some(trial.random.bits() as u32);

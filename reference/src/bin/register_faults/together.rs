@@ -6,11 +6,15 @@ use crate::trial::{agrees, other, Trial, UNITS};
 use reference::answer;
 use std::io::Write;
 use std::path::{Path, PathBuf};
+use std::process::ChildStdin;
 use std::sync::atomic::{AtomicBool, Ordering};
 use std::thread;
 use std::time::{Duration, Instant};
 
-/// Longer than ./desk waits for the other one.
+/// ./desk waits so long for another one.
+const WAITS: Duration = Duration::from_secs(2);
+
+/// Longer than that by far.
 const LONG: Duration = Duration::from_secs(8);
 
 /// Writers whose streams come at once, and one that waits for the other.
@@ -110,35 +114,37 @@ fn behind(
     let mut stdin = child.stdin.take();
     let stream = one.stream();
     let (early, late) = stream.split_at(stream.len() / 2);
-    let fed = |stdin: &mut Option<std::process::ChildStdin>, bytes: &[u8]| {
-        let written = stdin.as_mut().map(|stdin| stdin.write_all(bytes));
-        matches!(written, Some(Ok(())))
-    };
-    let mut took_it = fed(&mut stdin, early);
+    let fed_early = fed(&mut stdin, early);
     thread::sleep(Duration::from_millis(400));
-    let begun = Instant::now();
-    let (second, took) = thread::scope(|scope| {
-        let second = scope.spawn(|| {
-            let run = in_pieces(trial, later, path);
-            (run, begun.elapsed())
-        });
+    let (second, took, fed_late) = thread::scope(|scope| {
+        let second = scope.spawn(|| timed(|| in_pieces(trial, later, path)));
         thread::sleep(held);
-        took_it &= fed(&mut stdin, late);
+        let fed_late = fed(&mut stdin, late);
         drop(stdin.take());
-        second
-            .join()
-            .unwrap_or((Err("a run was lost".to_string()), LONG))
+        let lost = (Err("a run was lost".to_string()), LONG);
+        let (second, took) = second.join().unwrap_or(lost);
+        (second, took, fed_late)
     });
     let (first, second) = (collect(child), second.map_err(other)?);
     let file = std::fs::read(path).map_err(|_| Complaint::Torn)?;
-    if !took_it || took >= LONG {
+    if !fed_early || !fed_late || took >= LONG {
         return Err(other(format!("the second one took {took:?}")));
     }
-    let waits = held < Duration::from_secs(2);
-    if waits && !second.good() {
+    if held < WAITS && !second.good() {
         return Err(other(format!("it did not wait, it said {:?}", second.err)));
     }
     in_turn((one, &first), (later, &second), &file)
+}
+
+fn fed(stdin: &mut Option<ChildStdin>, bytes: &[u8]) -> bool {
+    let written = stdin.as_mut().map(|stdin| stdin.write_all(bytes));
+    matches!(written, Some(Ok(())))
+}
+
+fn timed<T>(work: impl FnOnce() -> T) -> (T, Duration) {
+    let begun = Instant::now();
+    let done = work();
+    (done, begun.elapsed())
 }
 
 /// Copies made at any time during writes are registers that the reference reached, in their order.
