@@ -172,7 +172,28 @@ fn measure(program: &Path, folder: &Path) -> std::io::Result<()> {
         .collect();
     let rate = side_by_side(&loads, program, folder)?;
     println!("{REGISTERS} registers of 64 units at once, streams: {rate:.0} in all");
+    let rate = one_by_one_at_once(program, folder)?;
+    println!("{REGISTERS} registers of 64 units at once, one report at a time: {rate:.0} in all");
     Ok(())
+}
+
+/// All of them at once, each with one report at a time.
+fn one_by_one_at_once(program: &Path, folder: &Path) -> std::io::Result<f64> {
+    let loads: Vec<Load> = (0..REGISTERS as u64)
+        .map(|seed| Load::of(seed, 64, 200))
+        .collect();
+    std::thread::scope(|scope| {
+        let start = |(load, number)| {
+            let load: &Load = load;
+            let path = folder.join(format!("{number}"));
+            scope.spawn(move || load.one_by_one(program, &path))
+        };
+        let running: Vec<_> = loads.iter().zip(0..REGISTERS).map(start).collect();
+        let rates = running
+            .into_iter()
+            .map(|run| run.join().expect("a run was lost"));
+        rates.sum()
+    })
 }
 
 /// Read side by side, so that no pipe fills up.

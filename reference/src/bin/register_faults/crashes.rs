@@ -26,12 +26,17 @@ pub fn every_call(trial: &mut Trial) -> Result<(), String> {
     Ok(())
 }
 
+/// Whether it matters on which side of the call the end comes.
+fn leaves_traces(call: &Call) -> bool {
+    call.prints() || call.changes() || call.name == "fsync"
+}
+
 /// The ways to end at a call; beyond the last one, a loss of power when all is done.
 fn faults_at(trial: &mut Trial, calls: &[Call], at: usize) -> Vec<Fault> {
     let kinds: &[Kind] = match calls.get(at - 1) {
         None => &[Kind::Before],
         Some(call) if call.writes() => &[Kind::Before, Kind::Half, Kind::After],
-        Some(call) if call.changes() || call.name == "fsync" => &[Kind::Before, Kind::After],
+        Some(call) if leaves_traces(call) => &[Kind::Before, Kind::After],
         Some(_) => &[],
     };
     let mut faults = Vec::new();
@@ -60,13 +65,13 @@ pub fn some_call(trial: &mut Trial) -> Result<(), String> {
             let scenario = scenario.perhaps_broken(&mut trial.random);
             let read = trial.random.between(60..=5_000) as usize;
             let calls = trial.calls(&scenario, read)?;
-            for _ in 0..5 {
-                let at = trial.random.between(1..=calls.len() as u32 + 1) as usize;
+            let telling = |at: &usize| calls.get(at - 1).is_none_or(leaves_traces);
+            let places: Vec<usize> = (1..=calls.len() + 1).filter(telling).collect();
+            for _ in 0..8 {
+                let at = trial.random.pick(&places);
                 let faults = faults_at(trial, &calls, at);
-                if !faults.is_empty() {
-                    let fault = trial.random.pick(&faults);
-                    crash(trial, &scenario, fault, at > calls.len(), read)?;
-                }
+                let fault = trial.random.pick(&faults);
+                crash(trial, &scenario, fault, at > calls.len(), read)?;
             }
             if trial.tally.enough() {
                 return Ok(());
