@@ -7,13 +7,14 @@ room=$(mktemp -d)
 small=$room/small
 trap 'mountpoint -q "$small" && umount "$small"; rm -rf "$room"' EXIT
 failed=0
+exec 3>&1
 desk=${DESK-$top/desk}
 
 # told WHAT TEST..: a failure is said and kept
 told() {
   local what=$1
   shift
-  "$@" || { echo "register_file.sh: $what"; failed=1; }
+  "$@" || { echo "register_file.sh: $what" >&3; failed=1; }
 }
 
 # one_line WHAT: the one plain line on standard error

@@ -41,8 +41,10 @@ case $1 in
   answer)
     [ -f "$2" ] || fail "no such register: $2"
     open_file "${3:--}"
-    take_lock "$(readlink -f "$2")"
-    run answer "$2"
+    real=$(readlink -f "$2")
+    take_lock "$real"
+    [ "$wrong" != replaces_link ] || real=$2
+    run answer "$real"
     ;;
   *) fail "no such word: $1" ;;
 esac

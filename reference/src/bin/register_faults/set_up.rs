@@ -122,29 +122,34 @@ fn existing(trial: &mut Trial, roster: &[u8]) {
         let case = format!("{} bytes", bytes.len());
         trial.tally.count("set-up where a file is", &case, found);
     }
-    for (case, put) in [
-        ("a folder", put_folder as fn(&Path)),
-        ("a link to nothing", put_link),
-    ] {
-        let path = trial.room.case().join("register");
-        put(&path);
-        let found = set_up(trial, roster, &path).and_then(|run| run.refused().map_err(other));
-        let target = path.with_file_name("target").exists();
-        let found = found.and(if target {
-            Err(other("the target was made"))
-        } else {
-            Ok(())
-        });
-        trial.tally.count("set-up where a file is", case, found);
+    let path = trial.room.case().join("register");
+    let _ = fs::create_dir(&path);
+    let found = set_up(trial, roster, &path).and_then(|run| run.refused().map_err(other));
+    trial
+        .tally
+        .count("set-up where a file is", "a folder", found);
+    let found = link_to_nothing(trial, roster);
+    trial
+        .tally
+        .count("set-up where a file is", "a link to nothing", found);
+}
+
+/// It is refused, or followed: the link stays, and the register is where it leads.
+fn link_to_nothing(trial: &Trial, roster: &[u8]) -> Result<(), Complaint> {
+    let path = trial.room.case().join("register");
+    let target = path.with_file_name("target");
+    let _ = symlink("target", &path);
+    let run = set_up(trial, roster, &path)?;
+    let is_link = path.is_symlink();
+    if run.good() && is_link {
+        return made(&run, roster, &target);
     }
-}
-
-fn put_folder(path: &Path) {
-    let _ = fs::create_dir(path);
-}
-
-fn put_link(path: &Path) {
-    let _ = symlink("target", path);
+    run.refused().map_err(other)?;
+    if is_link && !target.exists() {
+        Ok(())
+    } else {
+        Err(other("the link or its target was changed"))
+    }
 }
 
 fn no_roster_file(trial: &mut Trial, roster: &[u8]) {
