@@ -92,6 +92,7 @@ fn name(fault: Fault) -> &'static str {
     }
 }
 
+/// The program alone or, one time in five, beneath ./desk, which then has a status that is not 0.
 fn crash(
     trial: &mut Trial,
     scenario: &Scenario,
@@ -100,19 +101,25 @@ fn crash(
     read: usize,
 ) -> Result<(), String> {
     let path = trial.register(&scenario.register)?;
-    let mut command = trial.program("answer", &path);
+    let through_desk = trial.random.percent(20);
+    let mut command = if through_desk {
+        trial.desk_answer(&path)
+    } else {
+        trial.program("answer", &path)
+    };
     counting(&mut command, &trial.room, &trial.program, read);
     with_fault(&mut command, fault);
     let run = run(&mut command, Input::File(&scenario.stream()))?;
+    let ended = at_the_end || run.killed() || (through_desk && !run.succeeded());
     let found = match std::fs::read(&path) {
+        _ if !ended || !run.err.is_empty() => Err(other(format!(
+            "status {:?}, it said {:?}",
+            run.status, run.err
+        ))),
         Ok(file) => scenario.reached(&run.out, scenario.reports.len(), &file),
         Err(_) => Err(Complaint::Torn),
     };
-    let found = match run.err.as_str() {
-        _ if !run.killed() && !at_the_end => Err(other(format!("not killed: {:?}", run.err))),
-        "" => found.and_then(|done| trial.goes_on(scenario, done, &path)),
-        said => Err(other(format!("it said {said:?}"))),
-    };
+    let found = found.and_then(|done| trial.goes_on(scenario, done, &path));
     let case = format!(
         "{fault}, {} units, {read} bytes at a time",
         scenario.units()
