@@ -35,6 +35,7 @@ open_file() {
 case $1 in
   set-up)
     open_file "$2"
+    [ -n "$3" ] || fail 'the register has no name'
     take_lock "$3"
     run set-up "$3"
     ;;
