@@ -64,11 +64,11 @@ bad_words() {
 
 set_up_says() {
   fresh a roster-a
-  told "two units: $(cat "$room/out")" [ "$(cat "$room/out")" = 'set up 2 units' ]
+  told "two units: $(cat "$room/out")" [ "$(cat "$room/out")" = 'units set up: 2' ]
   told 'two units: not 14336 bytes' [ "$(stat -c %s "$room/a")" -eq 14336 ]
   head -c 28 "$room/roster-a" > "$room/roster-1"
   fresh one roster-1
-  told "one unit: $(cat "$room/out")" [ "$(cat "$room/out")" = 'set up 1 unit' ]
+  told "one unit: $(cat "$room/out")" [ "$(cat "$room/out")" = 'units set up: 1' ]
   refused 1 "$desk" set-up "$room/roster-a" "$room/a"
   refused 1 "$desk" set-up "$room/nothing" "$room/none"
   told 'no 20 in the line' grep -q 'roster 20: ' "$room/err"

@@ -18,7 +18,8 @@ use Rattle.calendar.specs.Calendar.{digit, dateOf, dateText, printed}
 use Rattle.report.specs.Report.{headOf}
 use Rattle.rules.specs.declared.Answer.{Answer}
 use Rattle.log.specs.declared.Totals.{Totals}
-use Rattle.log.specs.Log.{decimalBefore, decimal, space, lineFeed, hyphen, faultLine, unitText, stampText, numberColumn}
+use Rattle.log.specs.Ascii.{ascii}
+use Rattle.log.specs.Log.{decimalBefore, decimal, space, lineFeed, hyphen, faultLine, setUpLine, unitText, stampText, numberColumn}
 use Rattle.log.specs.Log.{lineText, totalsLine}
 use Rattle.log.specs.Run.{mostCounted}
 
@@ -167,9 +168,19 @@ totals-put t here t₁ t₂ t₃ t₄ t₅ e₁ e₂ e₃ e₄ e₅ word-put cle
     (put-then _ _ _ _ _ _ _ _ (put-then _ _ _ _ _ _ _ _ (put-then _ _ _ _ _ _ _ _ word-put clean-put) warned-put) refused-put)
     end-put)
 
-pub fault-put : (number : ℕ) (here t₁ t₂ t₃ : List ℕ) (e₁ e₂ e₃ : ℕ)
-    → Put here 0 (114 ∷ 111 ∷ 115 ∷ 116 ∷ 101 ∷ 114 ∷ 32 ∷ []) t₁ e₁ → Put t₁ e₁ (decimal number) t₂ e₂ → Put t₂ e₂ lineFeed t₃ e₃
-    → Line here (faultLine number) t₃ e₃
-unfolding faultLine
-fault-put number here t₁ t₂ t₃ e₁ e₂ e₃ word-put number-put end-put =
-    line-of _ _ _ _ (put-then _ _ _ _ _ _ _ _ (put-then _ _ _ _ _ _ _ _ word-put number-put) end-put)
+-- a number between a word and the line feed
+module _ (number : ℕ) (here t₁ t₂ t₃ : List ℕ) (e₁ e₂ e₃ : ℕ) where
+  number-line : (word : List ℕ) → Put here 0 word t₁ e₁ → Put t₁ e₁ (decimal number) t₂ e₂ → Put t₂ e₂ lineFeed t₃ e₃
+      → Line here (word ++ decimal number ++ lineFeed) t₃ e₃
+  number-line word word-put number-put end-put =
+      line-of _ _ _ _ (put-then _ _ _ _ _ _ _ _ (put-then _ _ _ _ _ _ _ _ word-put number-put) end-put)
+
+  pub fault-put : Put here 0 (ascii "roster ") t₁ e₁ → Put t₁ e₁ (decimal number) t₂ e₂ → Put t₂ e₂ lineFeed t₃ e₃
+      → Line here (faultLine number) t₃ e₃
+  unfolding faultLine
+  fault-put = number-line (ascii "roster ")
+
+  pub set-up-put : Put here 0 (ascii "units set up: ") t₁ e₁ → Put t₁ e₁ (decimal number) t₂ e₂ → Put t₂ e₂ lineFeed t₃ e₃
+      → Line here (setUpLine number) t₃ e₃
+  unfolding setUpLine
+  set-up-put = number-line (ascii "units set up: ")

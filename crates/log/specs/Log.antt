@@ -41,6 +41,10 @@ logHeader = headerText ++ lineFeed
 unfoldable pub faultLine : ℕ → List ℕ
 faultLine number = ascii "roster " ++ decimal number ++ lineFeed
 
+-- what a set-up on a file prints
+unfoldable pub setUpLine : ℕ → List ℕ
+setUpLine units = ascii "units set up: " ++ decimal units ++ lineFeed
+
 -- "Unit and stamp are "-" after refusal 2; a stamp out of range is "-"."
 unfoldable pub unitText : ℕ → ℕ → List ℕ
 unitText number unit = pick (eqb number 2) hyphen (decimal unit)

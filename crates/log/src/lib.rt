@@ -15,7 +15,7 @@ ghost use Rattle.fields.specs.Lists.{pick, put};
 ghost use Rattle.calendar.specs.Calendar.{digit as digitOf};
 ghost use Rattle.rules.specs.Desk.{answerTo};
 ghost use Rattle.report.specs.Report.{mostParts, mostText, partsStart, textAfter};
-ghost use Rattle.log.specs.Log.{decimal, space, lineFeed, logHeader, faultLine, unitText, stampText, numberColumn};
+ghost use Rattle.log.specs.Log.{decimal, space, lineFeed, logHeader, faultLine, setUpLine, unitText, stampText, numberColumn};
 ghost use Rattle.log.specs.Log.{lineText, logLine, totalsLine};
 ghost use Rattle.log.specs.Remarks.{hexDigit, shownByte, shown, remarkColumn, remarkLine, remarksHeader};
 ghost use Rattle.log.specs.Run.{entryBegins, statedLength, mostCounted, oneMore, countAnswer, progressAfter, atStart};
@@ -235,6 +235,17 @@ pub fn put_fault(text: &mut [u8], number: u8) -> usize
 {
     let number_at = put_text(text, 0, b"roster ");
     let end = put_decimal(text, number_at, number as u64);
+    put_text(text, end, &[b'\n'])
+}
+
+// What is printed where set-up has made a register file.
+pub fn put_set_up(text: &mut [u8], units: u64) -> usize
+    ensures { λ r. ⌜ r ≤ 128 ⌝ }
+    ensures { λ r. ⌜ r ≡ length (setUpLine units) ⌝ }
+    ensures { λ _. ⌜ now (text .exit) ≡ put (now (text .entry)) 0 (setUpLine units) ⌝ }
+{
+    let number_at = put_text(text, 0, b"units set up: ");
+    let end = put_decimal(text, number_at, units);
     put_text(text, end, &[b'\n'])
 }
 

@@ -80,7 +80,7 @@ fn set_up(path: &[u8], register: &mut [u8])
     if number != 0 {
         say_refusal(number);
     } else if disk::write_register(path, &register[..size]) {
-        say_units(units);
+        print_units(units);
     }
 }
 
@@ -90,14 +90,10 @@ fn say_refusal(number: u8) {
     say(b": it is not 1 to 64 good entries\n");
 }
 
-fn say_units(units: usize) {
-    print(b"set up ");
-    io::print_decimal(STDOUT_FILENO, units as u64);
-    if units == 1 {
-        print(b" unit\n");
-    } else {
-        print(b" units\n");
-    }
+fn print_units(units: usize) {
+    let mut text = [0u8; 128];
+    let end = log::put_set_up(&mut text, units as u64);
+    print(&text[..end]);
 }
 
 fn answer(path: &[u8], register: &mut [u8])

@@ -8,16 +8,10 @@ use libc::STDOUT_FILENO;
 use log::Logged;
 use log::Progress;
 use log::Totals;
+use streams::Input;
 ghost use mathlib.Core.Path.{_≡_};
 ghost use Prim.Native.Nat.{_+_, _≤_};
 ghost use lib.ListN.{length};
-
-// What came of reading: how many bytes, and whether the input ended or a read failed, which was then said.
-struct Input {
-    length: usize,
-    ended: bool,
-    failed: bool,
-}
 
 // What was read before the first report: the roster's length, how many entries begin in it, and what came after it.
 struct Start {
@@ -79,44 +73,23 @@ fn log_input(
     log_reports(&mut register[..size], report, ahead, remarks, text);
 }
 
-// One read into the bytes from `at` to `to`. One that is interrupted has brought nothing; the last one then has failed.
-fn read_once(bytes: &mut [u8], at: usize, to: usize, last: bool) -> Input
-    requires { ⌜ (at ≤ to) × (to ≤ length (now bytes)) ⌝ }
-    ensures { λ r. ⌜ at + r .length ≤ to ⌝ }
-{
-    let got = libc::read(STDIN_FILENO, &mut bytes[at..to]);
-    let failed = (got < 0) & (last | (os::errno() != libc::EINTR));
-    if failed {
-        os::fail(b"shift_log: standard input can't be read");
-    }
-    Input {
-        length: io::count(got, &bytes[at..to]),
-        ended: got == 0,
-        failed,
-    }
-}
-
-// Reads into the bytes from `from` to `to`, unless a read has failed before, in more turns than there are bytes.
+// Reads into the bytes from `from` to `to`, unless a read has failed before; a failure is said.
 fn read_between(bytes: &mut [u8], from: usize, to: usize, failed: bool) -> Input
     requires { ⌜ (from ≤ to) × (to ≤ length (now bytes)) ⌝ }
     ensures { λ r. ⌜ from + r .length ≤ to ⌝ }
 {
-    let mut at = from;
-    let mut ended = false;
-    let mut failed = failed;
-    let mut turns = 4096usize;
-    while turns > 0 && (at < to) & !ended & !failed {
-        turns -= 1;
-        let input = read_once(bytes, at, to, turns == 0);
-        at += input.length;
-        ended = input.ended;
-        failed = input.failed;
+    if failed {
+        return Input {
+            length: 0,
+            ended: false,
+            failed,
+        };
     }
-    Input {
-        length: at - from,
-        ended,
-        failed,
+    let input = streams::read_full(STDIN_FILENO, &mut bytes[from..to]);
+    if input.failed {
+        os::fail(b"shift_log: standard input can't be read");
     }
+    input
 }
 
 fn entry_ahead(input: &[u8], at: usize, ahead: usize) -> bool

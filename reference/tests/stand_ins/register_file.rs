@@ -44,8 +44,7 @@ fn set_up_file(path: &Path) -> Result<(), String> {
     }
     replace(path, &register, None)?;
     let units = register.len() / BLOCK_SIZE;
-    let plural = if units == 1 { "" } else { "s" };
-    print(format!("set up {units} unit{plural}\n").as_bytes())
+    print(format!("units set up: {units}\n").as_bytes())
 }
 
 fn print(lines: &[u8]) -> Result<(), String> {

@@ -29,10 +29,7 @@ fn register_of(roster: &[u8]) -> Vec<u8> {
 }
 
 fn said(units: usize) -> String {
-    match units {
-        1 => "set up 1 unit\n".to_string(),
-        _ => format!("set up {units} units\n"),
-    }
+    format!("units set up: {units}\n")
 }
 
 /// What ./desk prints of a good one, and the register.
