@@ -45,7 +45,7 @@ series-cut at (suc n) m =
     let k : suc n + m ≡ suc (n + m) = omega arith in
     rw (k, a, series-cut (at + 1) n m)
 
-zeros-cut : (s : List ℕ) (at n m : ℕ) → zerosAt s at (n + m) ≡ (zerosAt s at n && zerosAt s (at + n) m)
+pub zeros-cut : (s : List ℕ) (at n m : ℕ) → zerosAt s at (n + m) ≡ (zerosAt s at n && zerosAt s (at + n) m)
 unfolding zerosAt
 zeros-cut s at n m = rw (series-cut at n m) (all-append _ (series (λ j. j) at n) (series (λ j. j) (at + n) m))
 

@@ -41,7 +41,7 @@ ghost use Rattle.rules.specs.After.{putRow};
 ghost use Rattle.block.specs.Codec.{putUnit, putLastStamp, putPowers, putUnitHead, codesBytes, timesBytes, putRecord, pairBytesOf};
 ghost use Rattle.block.specs.Codec.{headFieldsEnd, slotFieldsEnd, RecordFits, HoldsRecord, PairFits};
 ghost use Rattle.block.specs.declared.Pair.{Pair};
-ghost use Rattle.block.specs.Slot.{pairAt, endsRise, PowersWithin, pairsRise, holdsAlone, headWhole, FreeFrom};
+ghost use Rattle.block.specs.Slot.{quartersZero, pairAt, endsRise, PowersWithin, pairsRise, holdsAlone, headWhole, FreeFrom};
 
 // A block's head, and its slots, each of fields and pairs.
 pub const HEAD_SIZE: usize = 64;
@@ -213,7 +213,23 @@ pub fn pair_at(z: &[u8], j: u16) -> Pair
     Pair { end, power }
 }
 
-fn all_zero(z: &[u8]) -> bool
+// Four bytes to a turn, far apart: the compiler reads 64 at a time, and the loop's own work counts less.
+fn quarters_zero(z: &[u8], quarter: usize) -> bool
+    requires { ⌜ 4 * quarter ≤ length (now z) ⌝ }
+    ensures { λ r. ⌜ r ≡ quartersZero (now (z .entry)) quarter ⌝ }
+{
+    let second = quarter + quarter;
+    let third = second + quarter;
+    let mut bits = 0u8;
+    for i in 0..quarter {
+        let front = z[i] | z[quarter + i];
+        let back = z[second + i] | z[third + i];
+        bits = bits | (front | back);
+    }
+    bits == 0
+}
+
+fn each_zero(z: &[u8]) -> bool
     ensures { λ r. ⌜ r ≡ zerosAt (now (z .entry)) 0 (length (now (z .entry))) ⌝ }
 {
     let mut bits = 0u8;
@@ -221,6 +237,14 @@ fn all_zero(z: &[u8]) -> bool
         bits = bits | z[i];
     }
     bits == 0
+}
+
+fn all_zero(z: &[u8]) -> bool
+    ensures { λ r. ⌜ r ≡ zerosAt (now (z .entry)) 0 (length (now (z .entry))) ⌝ }
+{
+    let quarter = z.len() / 4;
+    let rest = 4 * quarter;
+    quarters_zero(z, quarter) & each_zero(&z[rest..])
 }
 
 // A byte past the end counts as 0.
