@@ -15,10 +15,6 @@ use Rattle.rules.specs.Block.{pairStart, slotCount, unitMark, zerosAt, unitHead
 use Rattle.rules.specs.Whole.{headInRange}
 use Rattle.block.specs.declared.Pair.{Pair}
 
--- four stretches of n zeros
-unfoldable pub quartersZero : List ℕ → ℕ → Bool
-quartersZero z n = (zerosAt z 0 n && zerosAt z n n) && (zerosAt z (n + n) n && zerosAt z (n + n + n) n)
-
 -- pair j of a slot
 abbrev pub pairAt : List ℕ → ℕ → Pair
 pairAt z j = record { end = minuteAt z (pairStart j); power = kilowattAt z (pairStart j + 4) }

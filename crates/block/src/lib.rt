@@ -41,7 +41,7 @@ ghost use Rattle.rules.specs.After.{putRow};
 ghost use Rattle.block.specs.Codec.{putUnit, putLastStamp, putPowers, putUnitHead, codesBytes, timesBytes, putRecord, pairBytesOf};
 ghost use Rattle.block.specs.Codec.{headFieldsEnd, slotFieldsEnd, RecordFits, HoldsRecord, PairFits};
 ghost use Rattle.block.specs.declared.Pair.{Pair};
-ghost use Rattle.block.specs.Slot.{quartersZero, pairAt, endsRise, PowersWithin, pairsRise, holdsAlone, headWhole, FreeFrom};
+ghost use Rattle.block.specs.Slot.{pairAt, endsRise, PowersWithin, pairsRise, holdsAlone, headWhole, FreeFrom};
 
 // A block's head, and its slots, each of fields and pairs.
 pub const HEAD_SIZE: usize = 64;
@@ -213,18 +213,14 @@ pub fn pair_at(z: &[u8], j: u16) -> Pair
     Pair { end, power }
 }
 
-// A byte of each quarter to a turn, which the compiler makes 128 bytes to a turn: the loop's own work counts less.
-fn quarters_zero(z: &[u8], quarter: usize) -> bool
-    requires { ⌜ 4 * quarter ≤ length (now z) ⌝ }
-    ensures { λ r. ⌜ r ≡ quartersZero (now (z .entry)) quarter ⌝ }
+// As many bytes as a slot has: a number that the compiler knows, so that it makes one run of wide loads of them.
+fn stretch_zero(z: &[u8], at: usize) -> bool
+    requires { ⌜ at + slotSize ≤ length (now z) ⌝ }
+    ensures { λ r. ⌜ r ≡ zerosAt (now (z .entry)) at slotSize ⌝ }
 {
-    let second = quarter + quarter;
-    let third = second + quarter;
     let mut bits = 0u8;
-    for i in 0..quarter {
-        let front = z[i] | z[quarter + i];
-        let back = z[second + i] | z[third + i];
-        bits = bits | (front | back);
+    for i in 0..SLOT_SIZE {
+        bits = bits | z[at + i];
     }
     bits == 0
 }
@@ -242,9 +238,13 @@ fn each_zero(z: &[u8]) -> bool
 fn all_zero(z: &[u8]) -> bool
     ensures { λ r. ⌜ r ≡ zerosAt (now (z .entry)) 0 (length (now (z .entry))) ⌝ }
 {
-    let quarter = 32 * (z.len() / 128);
-    let rest = 4 * quarter;
-    quarters_zero(z, quarter) & each_zero(&z[rest..])
+    let mut at = 0;
+    let mut ok = true;
+    while SLOT_SIZE <= z.len() - at {
+        ok = ok & stretch_zero(z, at);
+        at += SLOT_SIZE;
+    }
+    ok & each_zero(&z[at..])
 }
 
 // A byte past the end counts as 0.
