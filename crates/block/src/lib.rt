@@ -52,8 +52,6 @@ pub const PAIR_SIZE: usize = 8;
 
 pub const SLOT_SIZE: usize = PAIRS_START + PAIR_SIZE * (MOST_PARTS as usize);
 
-const SLOT_WORDS: usize = SLOT_SIZE / 4;
-
 pub const SLOT_COUNT: u8 = 8;
 
 pub const BLOCK_SIZE: usize = HEAD_SIZE + SLOT_SIZE * (SLOT_COUNT as usize);
@@ -215,14 +213,14 @@ pub fn pair_at(z: &[u8], j: u16) -> Pair
     Pair { end, power }
 }
 
-// As many bytes as a slot has, four to a turn: a number of turns that the compiler knows, so that it makes one run of wide loads of them.
+// As many bytes as a slot has: a number that the compiler knows, so that it makes one run of wide loads of them.
 fn stretch_zero(z: &[u8], at: usize) -> bool
     requires { ⌜ at + slotSize ≤ length (now z) ⌝ }
     ensures { λ r. ⌜ r ≡ zerosAt (now (z .entry)) at slotSize ⌝ }
 {
-    let mut bits = 0u32;
-    for i in 0..SLOT_WORDS {
-        bits = bits | u32_in(z, at + 4 * i);
+    let mut bits = 0u8;
+    for i in 0..SLOT_SIZE {
+        bits = bits | z[at + i];
     }
     bits == 0
 }
