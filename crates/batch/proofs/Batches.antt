@@ -66,7 +66,8 @@ lent-left s at vs =
     rw (drop-of-length-le (drop at s) {i = length s - at} (simp length-drop (omega arith)), append-nil vs)
 
 -- what a step promises of the reports ss: its result, the text and the register afterwards
-pub record Done (so-far : Progress) (register text : List ℕ) (ss : List (List ℕ)) (r : Batch) (register' text' : List ℕ) : Type 0 where
+pub record Done (so-far : Progress) (register text : List ℕ) (ss : List (List ℕ)) (r : Batch)
+    (register' text' : List ℕ) : Type 0 where
   pub result : r ≡ batchOf so-far register ss
   pub lines : text' ≡ put text 0 (batchLines so-far register ss)
   pub left : register' ≡ registerAfter register ss
@@ -112,7 +113,8 @@ module _ (so-far : Progress) (register input : List ℕ) (ended : Bool) where
         }
 
     pub more-done : (most : ℕ) {r rest : Batch} {register'' text'' : List ℕ} → 0 < most → l .ends ≡ false
-        → Done (l .progress) register' (lent text' (l .length)) (reportsHere (most - 1) register' (lent input n) ended) rest register'' text''
+        → Done (l .progress) register' (lent text' (l .length)) (reportsHere (most - 1) register'
+        (lent input n) ended) rest register'' text''
         → r ≡ before l n rest → Done so-far register text (reportsHere most register input ended) r register''
         (take (l .length) text' ++ (text'' ++ drop (length text' - l .length) (drop (l .length) text')))
     unfolding reportsHere pick batchOf batchLines registerAfter
@@ -130,7 +132,8 @@ module _ (so-far : Progress) (register input : List ℕ) (ended : Bool) where
         ∙ put-next here-line ls text in
         record {
           result = f ∙ rw (first, others .result, left, one, sized);
-          lines = lent-left text' (l .length) text'' ∙ ap (λ (z : List ℕ). take (l .length) text' ++ z) (others .lines) ∙ put-dropped ls text' (l .length) ∙ together
+          lines = lent-left text' (l .length) text'' ∙ ap (λ (z : List ℕ). take (l .length) text' ++ z) (others .lines)
+              ∙ put-dropped ls text' (l .length) ∙ together
               ∙ rw (first, left, one);
           left = others .left ∙ rw (first, left);
         }

@@ -48,38 +48,63 @@ pub +log-some-spec : {M : Type 1} → statement M
     log-some.Post
     -- no-reports
     (λ c κs. search needs)
-    -- need: returns
+    -- returns
     (λ c. let d = none-asked _ _ _ _ ((c .no-reports .ensures)) _ (search needs) in
     ((rw ((c .no-reports .ensures)) (omega arith), rw ((c .no-reports .ensures)) (omega arith)), (d .result, (d .lines, d .left))))
     -- report-here, no-reports
     (λ c κs. search needs)
     (λ c κs. search needs)
-    -- need: returns-2
-    (λ c. let d = none-here _ _ _ _ ((c .no-reports2 .ensures)) _ _ ((c .before .before .report-here .ensures)) (not-true _ (c .before .if2 .taken)) in
-    ((rw ((c .no-reports2 .ensures)) (omega arith), rw ((c .no-reports2 .ensures)) (omega arith)), (d .result, (d .lines, d .left))))
+    -- returns-2
+    (λ c. let d = none-here _ _ _ _ ((c .no-reports2 .ensures)) _ _ ((c .before .before .report-here .ensures)) (not-true _
+    (c .before .if2 .taken)) in (
+      (rw ((c .no-reports2 .ensures)) (omega arith), rw ((c .no-reports2 .ensures)) (omega arith)),
+      (
+        d .result,
+        (d .lines, d .left),
+      ),
+    ))
     -- first-length, slice, log-report, no-reports
     (λ c κs. search needs)
-    -- need: slice-aggregate-log-report
+    -- slice-aggregate-log-report
     (λ c. sym (length-take-le _ _ ((c .before .before .first-length .ensures) .0)))
     (λ c κs. search needs)
     (λ c κs. search needs)
-    -- need: before-others-requires
-    (λ c κs. rw ((c .no-reports3 .ensures)) (omega (arith, (c .before .before .before .before .before .before .before .before .before .before .before .first-length .ensures) .0), omega (arith, (c .before .before .before .before .before .before .before .log-report .ensures) .0)))
+    -- before-others-requires
+    (λ c κs.
+    let at-log-report = c .before .before .before .before .before .before .before in
+    let at-first-length = at-log-report .before .before .before .before in
+    rw (c .no-reports3 .ensures) (
+      omega (arith, (at-first-length .first-length .ensures) .0),
+      omega (
+        arith,
+        (at-log-report .log-report .ensures) .0,
+      ),
+    ))
     (λ c. search needs)
     (λ c. search needs)
-    -- need: returns-3
+    -- returns-3
     (λ c.
-    let nothing = ap (before (c .before .before .before .before .before .before .before .before .log-report .result) (c .before .before .before .before .before .before .before .before .before .before .before .before .first-length .result)) (c .before .no-reports3 .ensures) in
-    let d = last-done _ _ _ _ _ ((c .before .before .before .before .before .before .before .before .before .before .before .before .first-length .ensures) .1) ((c .before .before .before .before .before .before .before .before .before .before .before .before .first-length .ensures) .0) ((c .before .before .before .before .before .before .before .before .log-report .ensures) .1 .0) ((c .before .before .before .before .before .before .before .before .before .before .before .before .before .before .report-here .ensures))
-    (not-false _ ((c .before .before .before .before .before .before .before .before .before .before .before .before .before .if2 .left))) ((c .before .before .before .before .before .before .before .before .log-report .ensures) .1 .1 .0) ((c .before .before .before .before .before .before .before .before .log-report .ensures) .1 .1 .1) _ (omega (arith, (c .before .before .before .before .before .before .before .before .before .before .before .before .before .before .before .if1 .left))) ((c .before .before .if3 .taken))
+    let at-if3 = c .before .before in
+    let at-log-report = at-if3 .before .before .before .before .before .before in
+    let at-first-length = at-log-report .before .before .before .before in
+    let at-if2 = at-first-length .before in
+    let at-report-here = at-if2 .before in
+    let at-if1 = at-report-here .before in
+    let at-pre = at-if1 .before .before .before .before in
+    let nothing = ap (before (at-log-report .log-report .result) (at-first-length .first-length .result))
+    (c .before .no-reports3 .ensures) in
+    let d = last-done _ _ _ _ _ (at-first-length .first-length .ensures .1) (at-first-length .first-length .ensures .0)
+    (at-log-report .log-report .ensures .1 .0) (at-report-here .report-here .ensures)
+    (not-false _ (at-if2 .if2 .left)) (at-log-report .log-report .ensures .1 .1 .0)
+    (at-log-report .log-report .ensures .1 .1 .1) _ (omega (arith, (at-if1 .if1 .left))) (at-if3 .if3 .taken)
     ((c .before-others .ensures) ∙ nothing) in (
       rw ((c .before-others .ensures) ∙ nothing) (
-        omega (arith, (c .before .before .before .before .before .before .before .before .before .before .before .before .first-length .ensures) .0),
-        omega (arith, (c .before .before .before .before .before .before .before .before .log-report .ensures) .0, (c .before .before .before .before .before .before .before .before .before .before .before .before .before .before .before .before .before .before .before .pre) .1, (c .before .before .before .before .before .before .before .before .before .before .before .before .before .before .before .if1 .left)),
+        omega (arith, (at-first-length .first-length .ensures) .0),
+        omega (arith, (at-log-report .log-report .ensures) .0, (at-pre .pre) .1, (at-if1 .if1 .left)),
       ),
       (d .result, (d .lines, d .left)),
     ))
-    -- need: sub-log-some
+    -- sub-log-some
     (λ c. search needs)
     (λ c. omega (arith, (c .before .before .before .before .before .before .before .before .before .before .before .first-length .ensures) .0))
     (λ c. search needs)
@@ -87,22 +112,66 @@ pub +log-some-spec : {M : Type 1} → statement M
     (λ c. search needs)
     (λ c. search needs)
     (λ c. search needs)
-    -- need: log-some-requires
-    (λ c κs. (omega (arith, (c .before .before .before .before .before .before .before .before .before .before .before .before .before .before .before .before .before .before .before .before .pre) .0, (c .before .before .before .before .before .before .before .before .before .before .before .before .before .before .before .before .if1 .left)), rw (lent-length _ _) (omega (arith, (c .before .before .before .before .before .before .before .before .before .log-report .ensures) .0, (c .before .before .before .before .before .before .before .before .before .before .before .before .before .before .before .before .before .before .before .before .pre) .1, (c .before .before .before .before .before .before .before .before .before .before .before .before .before .before .before .before .if1 .left)))))
-    -- need: before-others-requires-2
+    -- log-some-requires
     (λ c κs.
-    let fed = within-lent (c .before .before .before .before .before .before .before .before .before .before .before .before .before .before .before .before .before .before .before .before .before .before .before .before .before .args .input .now) _ _ ((c .before .before .before .before .before .before .before .before .before .before .before .before .before .before .before .before .before .before .first-length .ensures) .0) ((c .before .before .before .before .log-some .ensures) .0 .0) in
-    let told = within-put (c .before .before .before .before .before .before .before .before .before .before .before .before .before .before .before .before .before .before .before .before .before .before .before .before .before .args .text .now) _ _ _ ((c .before .before .before .before .before .before .before .before .before .before .before .before .before .before .log-report .ensures) .1 .1 .0) (omega (arith, (c .before .before .before .before .before .before .before .before .before .before .before .before .before .before .log-report .ensures) .0, (c .before .before .before .before .before .before .before .before .before .before .before .before .before .before .before .before .before .before .before .before .before .before .before .before .before .pre) .1, (c .before .before .before .before .before .before .before .before .before .before .before .before .before .before .before .before .before .before .before .before .before .if1 .left))) ((c .before .before .before .before .log-some .ensures) .0 .1) in
-    (omega (arith, fed, (c .before .before .before .before .before .before .before .before .before .before .before .before .before .before .before .before .before .before .before .before .before .before .before .before .before .good), (c .before .before .before .before .before .before .before .before .before .before .before .before .before .before .before .before .before .before .before .before .before .before .before .before .before .fits)), omega (arith, told, (c .before .before .before .before .before .before .before .before .before .before .before .before .before .before .before .before .before .before .before .before .before .before .before .before .before .good), (c .before .before .before .before .before .before .before .before .before .before .before .before .before .before .before .before .before .before .before .before .before .before .before .before .before .fits))))
+    let at-log-report = c .before .before .before .before .before .before .before .before .before in
+    let at-if1 = at-log-report .before .before .before .before .before .before .before in
+    let at-pre = at-if1 .before .before .before .before in (
+      omega (arith, (at-pre .pre) .0, (at-if1 .if1 .left)),
+      rw (lent-length _ _) (omega (
+        arith,
+        (at-log-report .log-report .ensures) .0,
+        (at-pre .pre) .1,
+        (at-if1 .if1 .left),
+      )),
+    ))
+    -- before-others-requires-2
+    (λ c κs.
+    let at-log-some = c .before .before .before .before in
+    let at-log-report = at-log-some .before .before .before .before .before .before .before .before .before .before in
+    let at-first-length = at-log-report .before .before .before .before in
+    let at-if1 = at-first-length .before .before .before in
+    let at-args = at-if1 .before .before .before .before in
+    let fed = within-lent (at-args .args .input .now) _ _ (at-first-length .first-length .ensures .0)
+    (at-log-some .log-some .ensures .0 .0) in
+    let told = within-put (at-args .args .text .now) _ _ _ (at-log-report .log-report .ensures .1 .1 .0) (omega (
+      arith,
+      (at-log-report .log-report .ensures) .0,
+      (at-args .pre) .1,
+      (at-if1 .if1 .left),
+    )) (at-log-some .log-some .ensures .0 .1) in
+    (omega (arith, fed, (at-args .good), (at-args .fits)), omega (arith, told, (at-args .good), (at-args .fits))))
     (λ c. search needs)
     (λ c. search needs)
-    -- need: returns-4
-    (λ c. let d = more-done _ _ _ _ _ ((c .before .before .before .before .before .before .before .before .before .before .before .before .before .before .before .before .before .before .before .first-length .ensures) .1) ((c .before .before .before .before .before .before .before .before .before .before .before .before .before .before .before .before .before .before .before .first-length .ensures) .0) ((c .before .before .before .before .before .before .before .before .before .before .before .before .before .before .before .log-report .ensures) .1 .0) ((c .before .before .before .before .before .before .before .before .before .before .before .before .before .before .before .before .before .before .before .before .before .report-here .ensures))
-    (not-false _ ((c .before .before .before .before .before .before .before .before .before .before .before .before .before .before .before .before .before .before .before .before .if2 .left))) ((c .before .before .before .before .before .before .before .before .before .before .before .before .before .before .before .log-report .ensures) .1 .1 .0) ((c .before .before .before .before .before .before .before .before .before .before .before .before .before .before .before .log-report .ensures) .1 .1 .1) _ (omega (arith, (c .before .before .before .before .before .before .before .before .before .before .before .before .before .before .before .before .before .before .before .before .before .before .if1 .left))) ((c .before .before .before .before .before .before .before .before .before .if3 .left))
-    (record { result = (c .before .before .before .before .before .log-some .ensures) .1 .0; lines = (c .before .before .before .before .before .log-some .ensures) .1 .1 .0; left = (c .before .before .before .before .before .log-some .ensures) .1 .1 .1 }) ((c .before-others2 .ensures)) in (
-      rw ((c .before-others2 .ensures)) (
-        within-lent (c .before .before .before .before .before .before .before .before .before .before .before .before .before .before .before .before .before .before .before .before .before .before .before .before .before .before .args .input .now) _ _ ((c .before .before .before .before .before .before .before .before .before .before .before .before .before .before .before .before .before .before .before .first-length .ensures) .0) ((c .before .before .before .before .before .log-some .ensures) .0 .0),
-        within-put (c .before .before .before .before .before .before .before .before .before .before .before .before .before .before .before .before .before .before .before .before .before .before .before .before .before .before .args .text .now) _ _ _ ((c .before .before .before .before .before .before .before .before .before .before .before .before .before .before .before .log-report .ensures) .1 .1 .0) (omega (arith, (c .before .before .before .before .before .before .before .before .before .before .before .before .before .before .before .log-report .ensures) .0, (c .before .before .before .before .before .before .before .before .before .before .before .before .before .before .before .before .before .before .before .before .before .before .before .before .before .before .pre) .1, (c .before .before .before .before .before .before .before .before .before .before .before .before .before .before .before .before .before .before .before .before .before .before .if1 .left))) ((c .before .before .before .before .before .log-some .ensures) .0 .1),
+    -- returns-4
+    (λ c.
+    let at-log-some = c .before .before .before .before .before in
+    let at-if3 = at-log-some .before .before .before .before in
+    let at-log-report = at-if3 .before .before .before .before .before .before in
+    let at-first-length = at-log-report .before .before .before .before in
+    let at-if2 = at-first-length .before in
+    let at-report-here = at-if2 .before in
+    let at-if1 = at-report-here .before in
+    let at-args = at-if1 .before .before .before .before in
+    let d = more-done _ _ _ _ _ (at-first-length .first-length .ensures .1) (at-first-length .first-length .ensures .0)
+    (at-log-report .log-report .ensures .1 .0) (at-report-here .report-here .ensures)
+    (not-false _ (at-if2 .if2 .left)) (at-log-report .log-report .ensures .1 .1 .0)
+    (at-log-report .log-report .ensures .1 .1 .1) _ (omega (arith, (at-if1 .if1 .left))) (at-if3 .if3 .left)
+    (record {
+      result = (at-log-some .log-some .ensures) .1 .0;
+      lines = (at-log-some .log-some .ensures) .1 .1 .0;
+      left =
+          (at-log-some .log-some .ensures) .1 .1 .1;
+    }) (c .before-others2 .ensures) in (
+      rw (c .before-others2 .ensures) (
+        within-lent (at-args .args .input .now) _ _ (at-first-length .first-length .ensures .0)
+            (at-log-some .log-some .ensures .0 .0),
+        within-put (at-args .args .text .now) _ _ _ (at-log-report .log-report .ensures .1 .1 .0) (omega (
+          arith,
+          (at-log-report .log-report .ensures) .0,
+          (at-args .pre) .1,
+          (at-if1 .if1 .left),
+        )) (at-log-some .log-some .ensures .0 .1),
       ),
       (d .result, (d .lines, d .left)),
     ))

@@ -9,7 +9,8 @@ use Rattle.register_file.proofs.answer_all.Tie as tie
 
 abbrev Inv-loop : tie.InvT-loop
 Inv-loop path register₀ window₀ text₀ state₀ turns₀ register window text state turns =
-    (length register ≡ length register₀) × (length window ≡ 65536) × (length text ≡ 65536) × (state .from ≤ state .to) × (state .to ≤ 65536) × (length path ≤ 4091)
+    (length register ≡ length register₀) × (length window ≡ 65536) × (length text ≡ 65536) × (state .from ≤ state .to) ×
+    (state .to ≤ 65536) × (length path ≤ 4091)
 
 abbrev μ-loop : tie.MeasureT-loop
 μ-loop path register₀ window₀ text₀ state₀ turns₀ register window text state turns = turns

@@ -7,10 +7,18 @@ use Rattle.register_file.proofs.answer_here.Statement.{statement}
 use Rattle.register_file.proofs.answer_here.Tie as tie
 
 add-t16 : tie.Need-add-t16
-add-t16 c = let most = taken-within (c .before .before .before .before .before .before .before .before .before .before .before .before .before .before .before .before .before .before .args .window .now) _ _ ((c .before .before .before .before .before .before .before .before .before .before .before .before .before .before .before .before .before .before .pre) .1) ((c .before .before .before .before .before .before .before .before .before .log-batch .ensures) .0 .0) in omega (arith, most, (c .before .before .before .before .before .before .before .before .before .before .before .before .before .before .before .before .before .before .pre) .2, (c .before .before .before .before .before .before .before .before .before .before .before .before .before .before .before .before .before .before .good))
+add-t16 c =
+    let at-log-batch = c .before .before .before .before .before .before .before .before .before in
+    let at-args = at-log-batch .before .before .before .before .before .before .before .before .before in
+    let most = taken-within (at-args .args .window .now) _ _ (at-args .pre .1)
+    (at-log-batch .log-batch .ensures .0 .0) in omega (arith, most, (at-args .pre) .2, (at-args .good))
 
 returns : tie.Need-returns
-returns c = (taken-within (c .before .before .before .before .before .before .before .before .before .before .before .before .before .before .before .before .before .before .before .before .before .before .args .window .now) _ _ ((c .before .before .before .before .before .before .before .before .before .before .before .before .before .before .before .before .before .before .before .before .before .before .pre) .1) ((c .before .before .before .before .before .before .before .before .before .before .before .before .before .log-batch .ensures) .0 .0), refl)
+returns c =
+    let at-log-batch = c .before .before .before .before .before .before .before .before .before .before .before .before
+    .before in
+    let at-args = at-log-batch .before .before .before .before .before .before .before .before .before in
+    (taken-within (at-args .args .window .now) _ _ (at-args .pre .1) (at-log-batch .log-batch .ensures .0 .0), refl)
 
 pub answer-here-spec : {M : Type 1} → statement M
 answer-here-spec =

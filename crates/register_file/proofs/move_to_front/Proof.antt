@@ -10,7 +10,8 @@ use Rattle.register_file.proofs.move_to_front.Tie as tie
 
 abbrev Inv-loop : tie.InvT-loop
 Inv-loop window₀ from to n j₀ window j =
-    (window ≡ put window₀ 0 (take j (part window₀ from n))) × (length window ≡ length window₀) × (j ≤ n) × (n ≡ to - from) × (from ≤ to) × (to ≤ length window₀)
+    (window ≡ put window₀ 0 (take j (part window₀ from n))) × (length window ≡ length window₀) × (j ≤ n) × (n ≡ to - from) ×
+    (from ≤ to) × (to ≤ length window₀)
 
 abbrev μ-loop : tie.MeasureT-loop
 μ-loop window₀ from to n j₀ window j = n - j
@@ -22,12 +23,29 @@ move-to-front-spec =
     Inv-loop
     μ-loop
     (λ c. omega arith)
-    (λ c. (none-moved (c .args .window .now) (c .args .from) (c .args .to - c .args .from) (omega arith), omega arith, omega arith, omega arith, omega arith, omega arith))
+    (λ c. (
+      none-moved (c .args .window .now) (c .args .from) (c .args .to - c .args .from)
+          (omega arith),
+      omega arith,
+      omega arith,
+      omega arith,
+      omega arith,
+      omega arith,
+    ))
     (λ c. omega arith)
     (λ c. omega arith)
     (λ c. omega arith)
     (λ c. omega arith)
     (λ c. omega arith)
-    (λ c. (one-moved (c .before .before .before .args .window .now) (c .before .before .before .args .from) _ (omega arith) _ (omega arith) (c .before .before .loop .inv .0), simp length-set (omega arith), omega arith, omega arith, omega arith, omega arith))
+    (λ c. (
+      one-moved (c .before .before .before .args .window .now) (c .before .before .before .args .from) _ (omega arith) _
+          (omega arith) (c .before .before .loop .inv .0),
+      simp length-set
+          (omega arith),
+      omega arith,
+      omega arith,
+      omega arith,
+      omega arith,
+    ))
     (λ c. search needs)
     (λ c. (omega arith, all-moved _ _ _ (omega arith) {j = c .before .loop .j} (omega arith) (c .before .loop .inv .0))))
