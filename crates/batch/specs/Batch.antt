@@ -5,7 +5,7 @@ use mathlib.Core.List.{List, [], _∷_, _++_}
 use lib.Dec.{leb, eqb}
 use lib.ListN.{length, take, drop}
 use Rattle.fields.specs.Lists.{pick}
-use Rattle.rules.specs.Desk.{answerTo}
+use Rattle.rules.specs.Desk.{answerTo, registerAfter}
 use Rattle.log.specs.declared.Progress.{Progress}
 use Rattle.log.specs.declared.Logged.{Logged}
 use Rattle.log.specs.Run.{statedLength, progressAfter, nextLine, loggedAfter}
@@ -60,3 +60,17 @@ batchOf so-far register [] = noReports so-far
 batchOf so-far register (s ∷ ss) =
     before (loggedAfter so-far register s) (length s)
     (batchOf (progressAfter so-far (answerTo register s .answer)) (answerTo register s .after) ss)
+
+-- the bytes of a list of reports, and whether one of them ends the run
+unfoldable pub bytesIn : List (List ℕ) → ℕ
+bytesIn [] = 0
+bytesIn (s ∷ ss) = length s + bytesIn ss
+
+unfoldable pub runEnds : List ℕ → List (List ℕ) → Bool
+runEnds register [] = false
+runEnds register (s ∷ ss) = endsRun register s || runEnds (answerTo register s .after) ss
+
+-- after the reports ss of an input: at most `most` more, unless the run has ended
+abbrev pub afterCut : ℕ → List ℕ → List ℕ → List (List ℕ) → List (List ℕ)
+afterCut most register input ss =
+    pick (runEnds register ss) [] (reportsHere most (registerAfter register ss) (drop (bytesIn ss) input) true)

@@ -2,12 +2,14 @@
 use log::Logged;
 use log::Progress;
 ghost use mathlib.Core.Path.{_≡_};
-ghost use Prim.Native.Nat.{_+_, _*_, _/_, _≤_};
-ghost use lib.ListN.{length};
+ghost use Prim.Native.Nat.{ℕ, _+_, _*_, _/_, _≤_};
+ghost use mathlib.Core.Bool.{true, false};
+ghost use mathlib.Core.List.{List, _++_};
+ghost use lib.ListN.{length, take};
 ghost use Rattle.rules.specs.Desk.{registerAfter};
 ghost use Rattle.fields.specs.Lists.{put};
 ghost use Rattle.log.specs.Run.{mostCounted};
-ghost use Rattle.batch.specs.Batch.{reportHere, firstLength, reportsHere, batchLines, noReports, before, batchOf};
+ghost use Rattle.batch.specs.Batch.{reportHere, firstLength, reportsHere, batchLines, noReports, before, batchOf, afterCut};
 
 // No line is longer.
 pub const LINE_SIZE: usize = 128;
@@ -118,3 +120,8 @@ pub fn log_batch(
 {
     log_some(register, input, ended, so_far, text, text.len() / LINE_SIZE)
 }
+
+// However an input is cut, its reports are the same: those that a first part holds, and those of what it leaves.
+pub fn cuts_change_nothing()
+    ensures { λ r. ⌜ ((register input : List ℕ) (cut most more : ℕ) → reportsHere (length (reportsHere most register (take cut input) false) + more) register input true ≡ reportsHere most register (take cut input) false ++ afterCut more register input (reportsHere most register (take cut input) false)) ⌝ }
+{}
