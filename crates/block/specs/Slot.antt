@@ -15,6 +15,10 @@ use Rattle.rules.specs.Block.{pairStart, slotCount, unitMark, zerosAt, unitHead
 use Rattle.rules.specs.Whole.{headInRange}
 use Rattle.block.specs.declared.Pair.{Pair}
 
+-- the bytes that are tested for zeros at a time
+abbrev pub stretchSize : ℕ
+stretchSize = 1184
+
 -- pair j of a slot
 abbrev pub pairAt : List ℕ → ℕ → Pair
 pairAt z j = record { end = minuteAt z (pairStart j); power = kilowattAt z (pairStart j + 4) }

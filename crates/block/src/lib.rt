@@ -41,7 +41,7 @@ ghost use Rattle.rules.specs.After.{putRow};
 ghost use Rattle.block.specs.Codec.{putUnit, putLastStamp, putPowers, putUnitHead, codesBytes, timesBytes, putRecord, pairBytesOf};
 ghost use Rattle.block.specs.Codec.{headFieldsEnd, slotFieldsEnd, RecordFits, HoldsRecord, PairFits};
 ghost use Rattle.block.specs.declared.Pair.{Pair};
-ghost use Rattle.block.specs.Slot.{pairAt, endsRise, PowersWithin, pairsRise, holdsAlone, headWhole, FreeFrom};
+ghost use Rattle.block.specs.Slot.{stretchSize, pairAt, endsRise, PowersWithin, pairsRise, holdsAlone, headWhole, FreeFrom};
 
 // A block's head, and its slots, each of fields and pairs.
 pub const HEAD_SIZE: usize = 64;
@@ -55,6 +55,9 @@ pub const SLOT_SIZE: usize = PAIRS_START + PAIR_SIZE * (MOST_PARTS as usize);
 pub const SLOT_COUNT: u8 = 8;
 
 pub const BLOCK_SIZE: usize = HEAD_SIZE + SLOT_SIZE * (SLOT_COUNT as usize);
+
+// Six stretches are the slots of a block, and none of their bytes is left over by loads of 16.
+const STRETCH_SIZE: usize = 1184;
 
 // A roster entry, and the most units of a register.
 pub const ENTRY_SIZE: usize = 28;
@@ -213,13 +216,13 @@ pub fn pair_at(z: &[u8], j: u16) -> Pair
     Pair { end, power }
 }
 
-// As many bytes as a slot has: a number that the compiler knows, so that it makes one run of wide loads of them.
+// A number of bytes that the compiler knows, so that it makes one run of wide loads of them.
 fn stretch_zero(z: &[u8], at: usize) -> bool
-    requires { ⌜ at + slotSize ≤ length (now z) ⌝ }
-    ensures { λ r. ⌜ r ≡ zerosAt (now (z .entry)) at slotSize ⌝ }
+    requires { ⌜ at + stretchSize ≤ length (now z) ⌝ }
+    ensures { λ r. ⌜ r ≡ zerosAt (now (z .entry)) at stretchSize ⌝ }
 {
     let mut bits = 0u8;
-    for i in 0..SLOT_SIZE {
+    for i in 0..STRETCH_SIZE {
         bits = bits | z[at + i];
     }
     bits == 0
@@ -240,9 +243,9 @@ fn all_zero(z: &[u8]) -> bool
 {
     let mut at = 0;
     let mut ok = true;
-    while SLOT_SIZE <= z.len() - at {
+    while STRETCH_SIZE <= z.len() - at {
         ok = ok & stretch_zero(z, at);
-        at += SLOT_SIZE;
+        at += STRETCH_SIZE;
     }
     ok & each_zero(&z[at..])
 }
