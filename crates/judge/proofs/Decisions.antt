@@ -20,7 +20,7 @@ use Rattle.rules.specs.Block.{slotCount, unitHead}
 use Rattle.rules.specs.Questions.{creationHead, recordBy, recordOf, recordAt, holder, heldRecord, other, leaves, stays, freeSlot, changesBy, changesState, hasTransition, question15, question16, question18, question19}
 use Rattle.rules.specs.Minutes.{FullRecord, reportedRecords, question17}
 use Rattle.rules.specs.After.{slotWritten, cleared, someSlot}
-use Rattle.rules.specs.Judge.{validationNumber, heldNumber, limitNumber, refusalNumber}
+use Rattle.rules.specs.Judge.{skips, validationNumber, heldNumber, limitNumber, refusalNumber}
 use Rattle.levels.specs.Counted.{reportRecord, sweptRecords}
 use Rattle.validation.specs.declared.Validated.{Validated}
 use Rattle.validation.specs.Parts.{validatedOf}
@@ -30,14 +30,35 @@ use Rattle.judge.specs.Survey.{holderOf, slotAnswers, answersAt, surveyO
 use Rattle.judge.specs.Decided.{writtenBy, refusedDecision, numberAfter, decidedBy, limitsDecided, decisionOf}
 use Rattle.judge.proofs.Joins.{records-same}
 
+-- who skips 15 or 16 skips 17, so that it need not be asked where one of them is answered no
+asked-last : (h : Head) (q15 q16 passed-over : Bool) → passed-over ≡ skips h 17 → (q17 q18 q19 : Bool)
+    → limitNumber h q15 q16 (pick (q15 && q16 && not passed-over) q17 true) q18 q19 0 ≡ limitNumber h q15 q16 q17 q18 q19 0
+unfolding limitNumber pick
+asked-last h q15 q16 passed-over e q17 q18 q19 =
+    rw e (by-case (skips h 17) q15 q16 (pick (skips h 18 || q18) (pick (skips h 19 || q19) 0 19) 18))
+  where
+    by-case : (k a b : Bool) (rest : ℕ)
+        → _≡_ {A = ℕ} (pick (k || a) (pick (k || b) (pick (k || pick (a && b && not k) q17 true) rest 17) 16) 15)
+        (pick (k || a) (pick (k || b) (pick (k || q17) rest 17) 16) 15)
+    by-case true a b rest = refl
+    by-case false false b rest = refl
+    by-case false true false rest = refl
+    by-case false true true rest = refl
+
 -- questions 15 to 19 from what the code computes
 module _ (b s : List ℕ) (h : Head) (unit : UnitHead) (slot : ℕ) (changes deratings : Bool) {survey : Survey}
     (asked-slots : survey ≡ surveyOf b h slot changes) {free : ℕ} (lowest : free ≡ freeAmong (survey .stays))
-    {minutes moves : Bool} (swept : minutes ≡ question17 (unit .kind) (unit .powers) (sweptRecords b s (survey .others) true) h)
+    {passed-over : Bool} (skipped : passed-over ≡ skips h 17) {minutes moves : Bool}
+    (swept : minutes ≡ pick (survey .closed && deratings && not passed-over)
+    (question17 (unit .kind) (unit .powers) (sweptRecords b s (survey .others) true) h) true)
     (stepped : moves ≡ hasTransition (unit .row) h) {n : ℕ} (asked : n ≡ limitNumber h (survey .closed) deratings minutes
     (not changes || moves) (not (creationHead h) || ltb free slotCount) 0) where
   number-is : n ≡ numberAfter b s h unit changes deratings (surveyOf b h slot changes)
-  number-is = asked ∙ rw (swept, stepped, lowest, asked-slots)
+  number-is =
+      let state = not changes || moves in
+      let room = not (creationHead h) || ltb free slotCount in
+      asked ∙ ap (λ (m : Bool). limitNumber h (survey .closed) deratings m state room 0) swept
+      ∙ asked-last h (survey .closed) deratings passed-over skipped _ state room ∙ rw (stepped, lowest, asked-slots)
 
   pub limits-refuse : {d : Decision} → (n ≡ 0 → ⊥) → d ≡ refusedDecision n → d ≡ limitsDecided b s h unit slot changes deratings
   unfolding decidedBy pick

@@ -19,7 +19,7 @@ use rules::UnitHead;
 ghost use mathlib.Core.Path.{_≡_};
 ghost use mathlib.Core.Bool.{true, _&&_};
 ghost use Prim.Native.Nat.{_+_, _≤_};
-ghost use Rattle.fields.specs.Lists.{series};
+ghost use Rattle.fields.specs.Lists.{pick, series};
 ghost use Rattle.rules.specs.Records.{sameIdentifier};
 ghost use Rattle.rules.specs.Block.{slotCount, slotAt, used, unitHead};
 ghost use Rattle.rules.specs.Questions.{rangeOf, recordAt, live, beginsBy, changesBy, hasTransition, question13, question14, mustLeave};
@@ -242,10 +242,20 @@ fn has_transition(row: Row, h: Head) -> bool
     row::stepped(row, h).moved
 }
 
-// Question 17.
-fn minutes_fit(b: &[u8], report: &[u8], h: Head, unit: UnitHead, others: [bool; 8]) -> bool
-    ensures { λ r. ⌜ r ≡ question17 (unit .kind) (unit .powers) (sweptRecords (now (b .entry)) (now (report .entry)) others true) h ⌝ }
+// Question 17, where it is asked.
+fn minutes_fit(
+    b: &[u8],
+    report: &[u8],
+    h: Head,
+    unit: UnitHead,
+    others: [bool; 8],
+    is_asked: bool,
+) -> bool
+    ensures { λ r. ⌜ r ≡ pick «is_asked» (question17 (unit .kind) (unit .powers) (sweptRecords (now (b .entry)) (now (report .entry)) others true) h) true ⌝ }
 {
+    if !is_asked {
+        return true;
+    }
     if !records::is_levelled(h.record_type) {
         return true;
     }
@@ -319,7 +329,8 @@ fn decide_limits(
     let others = survey.others;
     let leaves = survey.leaves;
     let free = lowest_free(stays);
-    let minutes = minutes_fit(b, report, h, unit, others);
+    let is_asked = survey.closed & deratings & !records::skips_question(h, 17);
+    let minutes = minutes_fit(b, report, h, unit, others, is_asked);
     let state = !changes | has_transition(unit.row, h);
     let room = !((h.operation == CREATE) & !(h.record_type == EVENT)) | (free < SLOT_COUNT);
     let number = limit_number(h, survey.closed, deratings, minutes, state, room);
