@@ -3,7 +3,7 @@ use Prim.Native.Nat.{ℕ, zero, suc, _+_, _-_, _≤_, _<_}
 use mathlib.Core.Path.{_≡_, refl, ap, sym, _∙_, subst}
 use mathlib.Core.Bool.{Bool, true, false, not, _&&_, _||_, false≢true}
 use mathlib.Core.List.{List}
-use mathlib.Core.Logic.{⊎-elim}
+use mathlib.Core.Logic.{_⊎_, inl, inr, ⊎-elim}
 use native.Mathlib.Nat.{add-zero, zero-add}
 use native.Mathlib.Omega.{arith}
 use lib.Dec.{leb, ltb, eqb}
@@ -20,13 +20,13 @@ use Rattle.rules.specs.declared.Levels.{Levels}
 use Rattle.rules.specs.declared.PowerRange.{PowerRange}
 use Rattle.rules.specs.Block.{slotAt}
 use Rattle.rules.specs.Codes.{forcedWork}
-use Rattle.rules.specs.Minutes.{noLevel, FullRecord, levelsAt, levelsFit, levelsEvery}
+use Rattle.rules.specs.Minutes.{noLevel, FullRecord, levelsAt, levelsFit, everyMinute, levelsEvery}
 use Rattle.block.specs.declared.Pair.{Pair}
 use Rattle.levels.specs.declared.Extremes.{Extremes}
 use Rattle.levels.specs.declared.Lane.{Lane}
 use Rattle.levels.specs.Pairs.{pairOf, levelAmongPairs}
 use Rattle.levels.specs.Lanes.{laneCount, laneIn, laneLevels}
-use Rattle.levels.specs.Extremes.{Covers, CoversType, fitsBeside, laterOf, joinedWith, withUnfit, MinuteIn, Asks, AsksBy, AsksType}
+use Rattle.levels.specs.Extremes.{Covers, CoversType, fitsBeside, passesAlone, laterOf, joinedWith, withUnfit, MinuteIn, Asks, AsksBy, AsksType}
 use Rattle.levels.proofs.Spans.{Sooner, sooner}
 use Rattle.levels.proofs.EachLane.{Seen, seen-none, seen-more, seen-past, seen-all}
 use Rattle.levels.proofs.Bounds.{extremes-levels}
@@ -191,25 +191,37 @@ both-ways true c f g = sym (f refl)
 both-ways false true f g = absurd (false≢true (g refl))
 both-ways false false f g = refl
 
--- only the minutes to be asked need be swept
-module _ (b s : List ℕ) (lanes : List Lane) (ws : List FullRecord) (direction : ℕ) (period : Period) (kind : ℕ) (range : PowerRange)
-    (same : (m : ℕ) → laneLevels b s (laneIn lanes) m ≡ levelsAt ws direction m) {p n : Extremes}
-    (cp : CoversType b s lanes 2 period p) (cn : CoversType b s lanes 3 period n) {h : Period}
-    (asked : AsksType b s lanes forcedWork period (fitsBeside kind range p n) h) {start end : Minute}
-    (first : start ≡ laterOf (period .start) (h .start)) (last : end ≡ earlierOf (period .end) (h .end)) where
-  abbrev test : ℕ → Bool
-  test m = levelsFit kind range (levelsAt ws direction m)
-
-  within-period : levelsEvery (levelsFit kind range) ws direction (period .start .0) (period .end .0) ≡ true
-      → levelsEvery (levelsFit kind range) ws direction (start .0) (end .0) ≡ true
-  unfolding levelsEvery
-  within-period e =
+-- every minute of a period passes exactly if those do that are among h: the others pass
+module _ (test : ℕ → Bool) (period h : Period) (passes : (m : ℕ) → period .start .0 ≤ m → m < period .end .0
+    → (test m ≡ true) ⊎ MinuteIn h m) {start end : Minute} (first : start ≡ laterOf (period .start) (h .start))
+    (last : end ≡ earlierOf (period .end) (h .end)) where
+  inner : everyMinute (period .start .0) (period .end .0) test ≡ true → everyMinute (start .0) (end .0) test ≡ true
+  inner e =
       let l = later first .one in
       let o = sooner last .one in
       all-intro test (λ m. m) (start .0) (end .0 - start .0)
       (λ m a b. all-at test (λ m. m) (period .start .0) (period .end .0 - period .start .0) m e (omega arith) (omega arith))
 
-  -- a level that fits beside the highest deratings fits beside those of its minute
+  outer : everyMinute (start .0) (end .0) test ≡ true → everyMinute (period .start .0) (period .end .0) test ≡ true
+  outer e =
+      all-intro test (λ m. m) (period .start .0) (period .end .0 - period .start .0)
+      (λ m a b. ⊎-elim (λ t. t) (inside m a (omega arith)) (passes m a (omega arith)))
+    where
+      inside : (m : ℕ) → period .start .0 ≤ m → m < period .end .0 → MinuteIn h m → test m ≡ true
+      inside m a o i =
+          let l = later first .below m a (i .from) in
+          let u = sooner last .above m o (i .to) in
+          all-at test (λ m. m) (start .0) (end .0 - start .0) m e (omega arith) (omega arith)
+
+  pub narrowed : everyMinute (start .0) (end .0) test ≡ everyMinute (period .start .0) (period .end .0) test
+  narrowed = both-ways _ _ outer inner
+
+-- question 17: a level that fits beside the highest deratings fits beside those of its minute
+module _ (b s : List ℕ) (lanes : List Lane) (ws : List FullRecord) (direction : ℕ) (period : Period) (kind : ℕ) (range : PowerRange)
+    (same : (m : ℕ) → laneLevels b s (laneIn lanes) m ≡ levelsAt ws direction m) {p n : Extremes}
+    (cp : CoversType b s lanes 2 period p) (cn : CoversType b s lanes 3 period n) {h : Period}
+    (asked : AsksType b s lanes forcedWork period (passesAlone kind range (record { beside = true; positive = p; negative = n })) h)
+    {start end : Minute} (first : start ≡ laterOf (period .start) (h .start)) (last : end ≡ earlierOf (period .end) (h .end)) where
   fits-alone : (m : ℕ) → period .start .0 ≤ m → m < period .end .0
       → fitsBeside kind range p n (laneLevels b s (laneIn lanes) m .forced .power) ≡ true
       → levelsFit kind range (laneLevels b s (laneIn lanes) m) ≡ true
@@ -220,43 +232,31 @@ module _ (b s : List ℕ) (lanes : List Lane) (ws : List FullRecord) (direction 
       (cp .covers m a o) (cn .covers m a o) kind
       (record { there = λ t. refl; low = λ t. omega arith; high = omega arith }) e
 
-  -- every other forced level's minute is asked
-  fits-asked : levelsEvery (levelsFit kind range) ws direction (start .0) (end .0) ≡ true → (m : ℕ) → period .start .0 ≤ m
-      → m < period .end .0 → MinuteIn h m → levelsFit kind range (laneLevels b s (laneIn lanes) m) ≡ true
-  unfolding levelsEvery
-  fits-asked e m a o i =
-      let l = later first .below m a (i .from) in
-      let u = sooner last .above m o (i .to) in
-      ap (levelsFit kind range) (same m) ∙ all-at test (λ m. m) (start .0) (end .0 - start .0) m e (omega arith) (omega arith)
-
-  fits-there : levelsEvery (levelsFit kind range) ws direction (start .0) (end .0) ≡ true → (m : ℕ) → period .start .0 ≤ m
-      → m < period .end .0 → laneLevels b s (laneIn lanes) m .forced .there ≡ true
-      → levelsFit kind range (laneLevels b s (laneIn lanes) m) ≡ true
-  unfolding laneLevels
-  fits-there e m a o there = by-case (fitsBeside kind range p n (laneLevels b s (laneIn lanes) m .forced .power)) refl where
+  there-or-asked : (m : ℕ) → period .start .0 ≤ m → m < period .end .0 → laneLevels b s (laneIn lanes) m .forced .there ≡ true
+      → (levelsFit kind range (laneLevels b s (laneIn lanes) m) ≡ true) ⊎ MinuteIn h m
+  unfolding laneLevels passesAlone pick
+  there-or-asked m a o there = by-case (fitsBeside kind range p n (laneLevels b s (laneIn lanes) m .forced .power)) refl where
     by-case : (t : Bool) → fitsBeside kind range p n (laneLevels b s (laneIn lanes) m .forced .power) ≡ t
-        → levelsFit kind range (laneLevels b s (laneIn lanes) m) ≡ true
-    by-case true t = fits-alone m a o t
-    by-case false t = fits-asked e m a o (asked .asks m a o .inside there t)
+        → (levelsFit kind range (laneLevels b s (laneIn lanes) m) ≡ true) ⊎ MinuteIn h m
+    by-case true t = inl (fits-alone m a o t)
+    by-case false t = inr (asked .asks m a o .inside there t)
 
-  fits-all : levelsEvery (levelsFit kind range) ws direction (start .0) (end .0) ≡ true → (m : ℕ) → period .start .0 ≤ m
-      → m < period .end .0 → levelsFit kind range (laneLevels b s (laneIn lanes) m) ≡ true
+  unforced : (l : Levels) → l .forced .there ≡ false → levelsFit kind range l ≡ true
   unfolding levelsFit
-  fits-all e m a o = by-case (laneLevels b s (laneIn lanes) m .forced .there) refl where
-    by-case : (t : Bool) → laneLevels b s (laneIn lanes) m .forced .there ≡ t
-        → levelsFit kind range (laneLevels b s (laneIn lanes) m) ≡ true
-    by-case true t = fits-there e m a o t
-    by-case false t = rw t
+  unforced l e = rw e
 
-  all-fit : ((m : ℕ) → period .start .0 ≤ m → m < period .end .0 → test m ≡ true)
-      → levelsEvery (levelsFit kind range) ws direction (period .start .0) (period .end .0) ≡ true
-  unfolding levelsEvery
-  all-fit h =
-      all-intro test (λ m. m) (period .start .0) (period .end .0 - period .start .0) (λ m a o. h m a (omega arith))
+  fit-or-asked : (m : ℕ) → period .start .0 ≤ m → m < period .end .0
+      → (levelsFit kind range (levelsAt ws direction m) ≡ true) ⊎ MinuteIn h m
+  fit-or-asked m a o =
+      subst (λ (l : Levels). (levelsFit kind range l ≡ true) ⊎ MinuteIn h m) (same m)
+      (by-case (laneLevels b s (laneIn lanes) m .forced .there) refl)
+    where
+      by-case : (t : Bool) → laneLevels b s (laneIn lanes) m .forced .there ≡ t
+          → (levelsFit kind range (laneLevels b s (laneIn lanes) m) ≡ true) ⊎ MinuteIn h m
+      by-case true t = there-or-asked m a o t
+      by-case false t = inl (unforced (laneLevels b s (laneIn lanes) m) t)
 
   pub asked-enough : levelsEvery (levelsFit kind range) ws direction (start .0) (end .0)
       ≡ levelsEvery (levelsFit kind range) ws direction (period .start .0) (period .end .0)
-  asked-enough = both-ways _ _ every-minute within-period where
-    every-minute : levelsEvery (levelsFit kind range) ws direction (start .0) (end .0) ≡ true
-        → levelsEvery (levelsFit kind range) ws direction (period .start .0) (period .end .0) ≡ true
-    every-minute e = all-fit (λ m a o. ap (levelsFit kind range) (sym (same m)) ∙ fits-all e m a o)
+  unfolding levelsEvery
+  asked-enough = narrowed (λ m. levelsFit kind range (levelsAt ws direction m)) period h fit-or-asked first last

@@ -8,4 +8,5 @@ pub mod EachLane
 pub mod Bounds
 pub mod Asked
 pub mod Within
+pub mod Warned
 pub mod Unforced

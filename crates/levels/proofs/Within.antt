@@ -32,7 +32,7 @@ some-none start end test h = ap not (all-intro (λ m. not (test m)) (λ m. m) st
 
 module _ (kind : ℕ) (range : PowerRange) where
   -- a level that is not there, or is within
-  abbrev Within : Level → Type 0
+  abbrev pub Within : Level → Type 0
   Within l = l .there ≡ true → powerWithin kind range (l .power .0) ≡ true
 
   abbrev pair-within : Pair → Bool
@@ -112,14 +112,14 @@ module _ (kind : ℕ) (range : PowerRange) where
     unfolding powerWithin
     not-low t = not-true low (and-right (not high) (not low) (h t))
 
-    not-above : aboveMax kind range l ≡ false
+    pub not-above : aboveMax kind range l ≡ false
     unfolding aboveMax
     not-above = by-case (l .forced .there) refl where
       by-case : (t : Bool) → l .forced .there ≡ t → (t && not (l .positive .there) && high) ≡ false
       by-case true e = rw (not-high e) (and-false (not (l .positive .there)))
       by-case false e = refl
 
-    not-below : belowMin kind range l ≡ false
+    pub not-below : belowMin kind range l ≡ false
     unfolding belowMin
     not-below = by-case (l .forced .there) refl where
       swap : (a c d : Bool) → (c && d) ≡ false → (a && c && d) ≡ false
@@ -145,13 +145,6 @@ module _ (kind : ℕ) (range : PowerRange) where
       where
         forced : (m : ℕ) → Within (levelAmong (countedRecords b counted) forcedWork direction m)
         forced m = among-quiet b direction m (λ i. getD counted i false) 0 8 (sym p ∙ t)
-
-    -- a sweep found them
-    pub warn-swept : (s : List ℕ) {g : SweepResult}
-        → g ≡ sweepResult kind range (sweptRecords b s counted false) direction start end
-        → record { above = g .above; below = g .below } ≡ levelWarnings kind range (countedRecords b counted) direction start end
-    unfolding levelWarnings sweepResult sweptRecords pick
-    warn-swept s e = λ i. record { above = e i .above; below = e i .below }
 
   -- what the code finds of a slot
   pub pair-tested : (z : List ℕ) {n j : ℕ} {p : Pair} {ok r : Bool} → Tested pair-within (pairAt z) n ok j → j < n → p ≡ pairAt z j

@@ -18,9 +18,11 @@ use Rattle.rules.specs.Block.{slotCount}
 use Rattle.rules.specs.Questions.{recordAt}
 use Rattle.rules.specs.Minutes.{levelsFit}
 use Rattle.block.specs.declared.Pair.{Pair}
+use Rattle.levels.specs.declared.Aside.{Aside}
 use Rattle.levels.specs.declared.Extremes.{Extremes}
 use Rattle.levels.specs.declared.Lane.{Lane}
 use Rattle.levels.specs.Pairs.{levelAmongPairs}
+use Rattle.levels.specs.Within.{powerWithin}
 use Rattle.levels.specs.Lanes.{laneCount, laneIn, levelAmongLanes}
 
 -- slot i counts and has forced work; some slot does
@@ -65,6 +67,11 @@ extremesFit kind range f p n =
 -- a forced level fits beside the highest deratings
 abbrev pub fitsBeside : ℕ → PowerRange → Extremes → Extremes → Kilowatt → Bool
 fitsBeside kind range p n power = extremesFit kind range (record { there = true; lowest = power; highest = power }) p n
+
+-- what a level passes whatever its minute: it fits beside the highest deratings, or warnings 2 and 4 do not concern it
+unfoldable pub passesAlone : ℕ → PowerRange → Aside → Kilowatt → Bool
+passesAlone kind range aside power =
+    pick (aside .beside) (fitsBeside kind range (aside .positive) (aside .negative) power) (powerWithin kind range (power .0))
 
 unfoldable pub laterOf : Minute → Minute → Minute
 laterOf m n = pick (ltb (m .0) (n .0)) n m

@@ -24,7 +24,7 @@ ghost use Rattle.levels.specs.Pairs.{pairOf, levelAmongPairs, Passed};
 ghost use Rattle.levels.specs.Counted.{countedRecords, sweptRecords};
 ghost use Rattle.levels.specs.Lanes.{laneCount, noLane, laneOf, reportLane, slotLane, laneAt, laneIn, laneLevel, laneLevels, levelsOf, Stepped, Placed, Held, Chosen, chosenLevels, choiceLevels, spanAt, placeAfter, AheadAll, besideOf, soonest, Ready};
 ghost use Rattle.levels.specs.Result.{withSpan, bothFound, foundIn, Ran, sweepResult};
-ghost use Rattle.levels.specs.Extremes.{someForced, WiderBy, CoversType, extremesFit, fitsBeside, laterOf, withUnfit, AsksBy, AsksType};
+ghost use Rattle.levels.specs.Extremes.{someForced, WiderBy, CoversType, extremesFit, fitsBeside, passesAlone, laterOf, withUnfit, AsksBy, AsksType};
 ghost use Rattle.rules.specs.Codes.{forcedWork};
 ghost use Rattle.levels.specs.Within.{powerWithin, pairsWithin, slotWithin, forcedWithin, levelWarnings};
 
@@ -82,6 +82,13 @@ pub struct Extremes {
     pub there: bool,
     pub lowest: Kilowatt,
     pub highest: Kilowatt,
+}
+
+// What a level is asked whatever its minute: to fit beside the highest deratings, or to be within the limits.
+pub struct Aside {
+    pub beside: bool,
+    pub positive: Extremes,
+    pub negative: Extremes,
 }
 
 // Question 17, and warnings 2 and 4.
@@ -595,28 +602,6 @@ fn sweep_lanes(
     g
 }
 
-// Question 17 and warnings 2 and 4 in every minute of a period, of the records of one direction.
-pub fn sweep(
-    b: &[u8],
-    report: &[u8],
-    swept: Swept,
-    direction: u8,
-    period: Period,
-    kind: u8,
-    range: PowerRange,
-) -> SweepResult
-    ensures { λ r. ⌜ r ≡ sweepResult kind range (sweptRecords (now (b .entry)) (now (report .entry)) (swept .counted) (swept .«with_report»)) direction (period .start .0) (period .end .0) ⌝ }
-{
-    sweep_lanes(
-        b,
-        report,
-        lanes_of(b, report, swept, direction),
-        period,
-        kind,
-        range,
-    )
-}
-
 fn lower(p: Kilowatt, q: Kilowatt) -> Kilowatt
     ensures { λ r. ⌜ (r .0 ≤ p .0) × (r .0 ≤ q .0) ⌝ }
 {
@@ -716,6 +701,31 @@ fn fits_beside(kind: u8, range: PowerRange, p: Extremes, n: Extremes, power: Kil
     extremes_fit(kind, range, f, p, n)
 }
 
+// What warnings 2 and 4 ask of a level itself.
+fn power_within(kind: u8, range: PowerRange, power: Kilowatt) -> bool
+    ensures { λ r. ⌜ r ≡ powerWithin kind range (power .0) ⌝ }
+{
+    let level = quantities::wide(power);
+    let max = quantities::wide(range.max);
+    let high = records::choose(
+        kind == Z1,
+        max < level + quantities::wide(range.min),
+        max < level,
+    );
+    !high & !(((kind == W1) | (kind == M1)) & (power.0 < range.min.0))
+}
+
+fn passes_alone(kind: u8, range: PowerRange, aside: Aside, power: Kilowatt) -> bool
+    ensures { λ r. ⌜ r ≡ passesAlone kind range aside power ⌝ }
+{
+    if aside.beside {
+        let p = aside.positive;
+        let n = aside.negative;
+        return fits_beside(kind, range, p, n, power);
+    }
+    power_within(kind, range, power)
+}
+
 fn later(m: Minute, n: Minute) -> Minute
     ensures { λ r. ⌜ r ≡ laterOf m n ⌝ }
 {
@@ -742,25 +752,24 @@ fn asked_in(
     lane: Lane,
     kind: u8,
     range: PowerRange,
-    p: Extremes,
-    n: Extremes,
+    aside: Aside,
     seen: Period,
 ) -> Period
-    ensures { λ r. ⌜ AsksBy (fitsBeside kind range p n) (pairOf (now (report .entry)) (now (slot .entry)) «in_report») (lane .count) (lane .period .start .0) seen r ⌝ }
+    ensures { λ r. ⌜ AsksBy (passesAlone kind range aside) (pairOf (now (report .entry)) (now (slot .entry)) «in_report») (lane .count) (lane .period .start .0) seen r ⌝ }
 {
     let mut asked = seen;
     let mut from = lane.period.start;
     for j in 0..lane.count {
         let pair = pair_of(report, slot, in_report, j);
         let to = pair.end;
-        let fit = fits_beside(kind, range, p, n, pair.power);
+        let fit = passes_alone(kind, range, aside, pair.power);
         asked = with_unfit(asked, from, to, fit);
         from = to;
     }
     asked
 }
 
-// The minutes of a period to be asked: outside them every forced level fits beside the highest deratings.
+// The minutes of a period to be asked: outside them every forced level passes alone.
 fn asked_of(
     b: &[u8],
     report: &[u8],
@@ -768,10 +777,9 @@ fn asked_of(
     period: Period,
     kind: u8,
     range: PowerRange,
-    p: Extremes,
-    n: Extremes,
+    aside: Aside,
 ) -> Period
-    ensures { λ r. ⌜ AsksType (now (b .entry)) (now (report .entry)) lanes forcedWork period (fitsBeside kind range p n) r ⌝ }
+    ensures { λ r. ⌜ AsksType (now (b .entry)) (now (report .entry)) lanes forcedWork period (passesAlone kind range aside) r ⌝ }
 {
     let start = Minute(4294967295);
     let end = Minute(0);
@@ -789,8 +797,7 @@ fn asked_of(
                 lane,
                 kind,
                 range,
-                p,
-                n,
+                aside,
                 asked,
             );
         }
@@ -838,24 +845,15 @@ pub fn fits(
     if extremes_fit(kind, range, forced, positive, negative) {
         return true;
     }
-    let asked = asked_of(b, report, lanes, period, kind, range, positive, negative);
+    let aside = Aside {
+        beside: true,
+        positive,
+        negative,
+    };
+    let asked = asked_of(b, report, lanes, period, kind, range, aside);
     let start = later(period.start, asked.start);
     let end = quantities::earlier(period.end, asked.end);
     sweep_lanes(b, report, lanes, Period { start, end }, kind, range).fits
-}
-
-// What warnings 2 and 4 ask of a level itself.
-fn power_within(kind: u8, range: PowerRange, power: Kilowatt) -> bool
-    ensures { λ r. ⌜ r ≡ powerWithin kind range (power .0) ⌝ }
-{
-    let level = quantities::wide(power);
-    let max = quantities::wide(range.max);
-    let high = records::choose(
-        kind == Z1,
-        max < level + quantities::wide(range.min),
-        max < level,
-    );
-    !high & !(((kind == W1) | (kind == M1)) & (power.0 < range.min.0))
 }
 
 // Every pair is tested, without an early exit: the turns are then alike.
@@ -895,7 +893,26 @@ fn forced_within(b: &[u8], counted: [bool; 8], direction: u8, kind: u8, range: P
     ok
 }
 
-// Warnings 2 and 4 of the slots that count, in a period. Only where some level is beyond the limits is it swept.
+// No level is asked to fit beside deratings.
+fn within_limits() -> Aside
+    ensures { λ r. ⌜ r .beside ≡ false ⌝ }
+{
+    let lowest = Kilowatt(0);
+    let highest = Kilowatt(0);
+    let positive = Extremes {
+        there: false,
+        lowest,
+        highest,
+    };
+    let negative = positive;
+    Aside {
+        beside: false,
+        positive,
+        negative,
+    }
+}
+
+// Warnings 2 and 4 of the slots that count, in a period. Swept are only minutes between levels that are beyond the limits.
 pub fn warn(
     b: &[u8],
     counted: [bool; 8],
@@ -916,7 +933,11 @@ pub fn warn(
         counted,
         with_report: false,
     };
-    let g = sweep(b, b, swept, direction, period, kind, range);
+    let lanes = lanes_of(b, b, swept, direction);
+    let asked = asked_of(b, b, lanes, period, kind, range, within_limits());
+    let start = later(period.start, asked.start);
+    let end = quantities::earlier(period.end, asked.end);
+    let g = sweep_lanes(b, b, lanes, Period { start, end }, kind, range);
     LevelWarnings {
         above: g.above,
         below: g.below,

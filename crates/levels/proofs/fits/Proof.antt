@@ -18,17 +18,25 @@ returns-2 c = fits-unforced _ _ _ _ _ _ _ _ (records-levels _ _ _ _ (c .before .
 
 returns-3 : tie.Need-returns-3
 returns-3 c =
+    let at-extremes-of2 = c .before .before .before in
+    let at-extremes-of = at-extremes-of2 .before .before .before in
+    let at-lanes-of = at-extremes-of .before in
     fits-extremes _ _ _ _ _ _ _ _
-    (records-levels _ _ _ _ (c .before .before .before .before .before .before .before .lanes-of .ensures))
-    (c .before .before .before .before .before .before .extremes-of .ensures)
-    (c .before .before .before .extremes-of2 .ensures) (c .before .before .extremes-of3 .ensures)
+    (records-levels _ _ _ _ (at-lanes-of .lanes-of .ensures))
+    (at-extremes-of .extremes-of .ensures)
+    (at-extremes-of2 .extremes-of2 .ensures) (c .before .before .extremes-of3 .ensures)
     (c .before .extremes-fit .ensures) (c .if3 .taken)
 
 returns-4 : tie.Need-returns-4
 returns-4 c =
-    let lanes = records-levels _ _ _ _ (c .before .before .before .before .before .before .before .before .before .before .before .lanes-of .ensures) in
+    let at-asked-of = c .before .before .before in
+    let at-extremes-of3 = at-asked-of .before .before .before in
+    let at-extremes-of2 = at-extremes-of3 .before in
+    let at-lanes-of = at-extremes-of2 .before .before .before .before in
+    let lanes = records-levels _ _ _ _ (at-lanes-of .lanes-of .ensures) in
     fits-swept _ _ _ _ _ _ ((c .sweep-lanes .ensures) ∙ found-records _ _ _ _ _ _ lanes)
-    ∙ asked-enough _ _ _ _ _ _ _ _ lanes (c .before .before .before .before .before .before .before .extremes-of2 .ensures) (c .before .before .before .before .before .before .extremes-of3 .ensures) (c .before .before .before .asked-of .ensures) (c .before .before .later .ensures) (c .before .earlier .ensures)
+    ∙ asked-enough _ _ _ _ _ _ _ _ lanes (at-extremes-of2 .extremes-of2 .ensures) (at-extremes-of3 .extremes-of3 .ensures)
+    (at-asked-of .asked-of .ensures) (c .before .before .later .ensures) (c .before .earlier .ensures)
 
 pub fits-spec : {M : Type 1} → statement M
 fits-spec =
