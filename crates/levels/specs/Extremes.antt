@@ -1,7 +1,7 @@
 -- The lowest and the highest power of a type's lanes in a period: where these fit, every minute does.
 use Prim.Native.Nat.{ℕ, _≤_, _<_}
 use mathlib.Core.Path.{_≡_}
-use mathlib.Core.Bool.{Bool, true, false, not, _&&_}
+use mathlib.Core.Bool.{Bool, true, false, not, _&&_, _||_}
 use mathlib.Core.List.{List}
 use lib.Dec.{ltb, eqb}
 use lib.ListN.{getD}
@@ -13,24 +13,38 @@ use Rattle.quantities.specs.Quantities.{earlierOf}
 use Rattle.rules.specs.declared.Level.{Level}
 use Rattle.rules.specs.declared.Levels.{Levels}
 use Rattle.rules.specs.declared.PowerRange.{PowerRange}
-use Rattle.rules.specs.Codes.{forcedWork}
+use Rattle.rules.specs.Codes.{positiveDerating, negativeDerating, forcedWork}
 use Rattle.rules.specs.Block.{slotCount}
 use Rattle.rules.specs.Questions.{recordAt}
 use Rattle.rules.specs.Minutes.{levelsFit}
 use Rattle.block.specs.declared.Pair.{Pair}
 use Rattle.levels.specs.declared.Aside.{Aside}
+use Rattle.levels.specs.declared.CountedTypes.{CountedTypes}
 use Rattle.levels.specs.declared.Extremes.{Extremes}
 use Rattle.levels.specs.declared.Lane.{Lane}
 use Rattle.levels.specs.Pairs.{levelAmongPairs}
 use Rattle.levels.specs.Within.{powerWithin}
 use Rattle.levels.specs.Lanes.{laneCount, laneIn, levelAmongLanes}
 
--- slot i counts and has forced work; some slot does
-abbrev pub forcedAt : List ℕ → List Bool → ℕ → Bool
-forcedAt b counted i = getD counted i false && eqb (recordAt b i .«record_type») forcedWork
+-- slot i counts and is of a type; some slot is
+abbrev pub typeAt : List ℕ → List Bool → ℕ → ℕ → Bool
+typeAt b counted type i = getD counted i false && eqb (recordAt b i .«record_type») type
 
-unfoldable pub someForced : List ℕ → List Bool → Bool
-someForced b counted = not (all (λ i. not (forcedAt b counted i)) (series (λ i. i) 0 slotCount))
+unfoldable pub someOfType : List ℕ → List Bool → ℕ → Bool
+someOfType b counted type = not (all (λ i. not (typeAt b counted type i)) (series (λ i. i) 0 slotCount))
+
+abbrev pub countedTypes : List ℕ → List Bool → CountedTypes
+countedTypes b counted = record {
+  forced = someOfType b counted forcedWork;
+  positive = someOfType b counted positiveDerating;
+  negative = someOfType b counted negativeDerating;
+}
+
+-- forced work and a derating count, the report's record among them
+abbrev pub typesMeet : CountedTypes → Bool → ℕ → Bool
+typesMeet counted with-report type =
+    (counted .forced || with-report && eqb type forcedWork)
+    && ((counted .positive || with-report && eqb type positiveDerating) || (counted .negative || with-report && eqb type negativeDerating))
 
 -- a level that there is lies between the two; a power that is not there counts as 0
 pub record Covers (e : Extremes) (l : Level) : Type 0 where

@@ -24,7 +24,7 @@ ghost use Rattle.levels.specs.Pairs.{pairOf, levelAmongPairs, Passed};
 ghost use Rattle.levels.specs.Counted.{countedRecords, sweptRecords};
 ghost use Rattle.levels.specs.Lanes.{laneCount, noLane, laneOf, reportLane, slotLane, laneAt, laneIn, laneLevel, laneLevels, levelsOf, Stepped, Placed, Held, Chosen, chosenLevels, choiceLevels, spanAt, placeAfter, AheadAll, besideOf, soonest, Ready};
 ghost use Rattle.levels.specs.Result.{withSpan, bothFound, foundIn, Ran, sweepResult};
-ghost use Rattle.levels.specs.Extremes.{someForced, WiderBy, CoversType, extremesFit, fitsBeside, passesAlone, laterOf, withUnfit, AsksBy, AsksType};
+ghost use Rattle.levels.specs.Extremes.{countedTypes, typesMeet, WiderBy, CoversType, extremesFit, fitsBeside, passesAlone, laterOf, withUnfit, AsksBy, AsksType};
 ghost use Rattle.rules.specs.Codes.{forcedWork};
 ghost use Rattle.levels.specs.Within.{powerWithin, pairsWithin, slotWithin, forcedWithin, levelWarnings};
 
@@ -89,6 +89,13 @@ pub struct Aside {
     pub beside: bool,
     pub positive: Extremes,
     pub negative: Extremes,
+}
+
+// The types that question 17 is about, among the slots that count.
+pub struct CountedTypes {
+    pub forced: bool,
+    pub positive: bool,
+    pub negative: bool,
 }
 
 // Question 17, and warnings 2 and 4.
@@ -805,20 +812,39 @@ fn asked_of(
     asked
 }
 
-// Some slot that counts has forced work.
-fn some_forced(b: &[u8], counted: [bool; 8]) -> bool
-    ensures { λ r. ⌜ r ≡ someForced (now (b .entry)) counted ⌝ }
+// Which types the slots that count have.
+fn counted_types(b: &[u8], counted: [bool; 8]) -> CountedTypes
+    ensures { λ r. ⌜ r ≡ countedTypes (now (b .entry)) counted ⌝ }
 {
-    let mut none = true;
+    let mut unforced = true;
+    let mut no_positive = true;
+    let mut no_negative = true;
     for i in 0..SLOT_COUNT {
         let r = block::record_in(block::slot_at(b, i));
-        none = none & !(counted[i as usize] & (r.record_type == FORCED_WORK));
+        let counts = counted[i as usize];
+        unforced = unforced & !(counts & (r.record_type == FORCED_WORK));
+        no_positive = no_positive & !(counts & (r.record_type == POSITIVE_DERATING));
+        no_negative = no_negative & !(counts & (r.record_type == NEGATIVE_DERATING));
     }
-    !none
+    CountedTypes {
+        forced: !unforced,
+        positive: !no_positive,
+        negative: !no_negative,
+    }
+}
+
+// Forced work and a derating count, the report's record among them.
+fn types_meet(counted: CountedTypes, with_report: bool, record_type: u8) -> bool
+    ensures { λ r. ⌜ r ≡ typesMeet counted «with_report» «record_type» ⌝ }
+{
+    let forced = counted.forced | (with_report & (record_type == FORCED_WORK));
+    let positive = counted.positive | (with_report & (record_type == POSITIVE_DERATING));
+    let negative = counted.negative | (with_report & (record_type == NEGATIVE_DERATING));
+    forced & (positive | negative)
 }
 
 // Question 17 in every minute of a period, of the records of one direction. Swept are only minutes between forced levels that do not
-// fit beside the highest deratings.
+// fit beside the highest deratings; none without forced work or without a derating.
 pub fn fits(
     b: &[u8],
     report: &[u8],
@@ -831,8 +857,12 @@ pub fn fits(
     ensures { λ r. ⌜ r ≡ levelsEvery (levelsFit kind range) (sweptRecords (now (b .entry)) (now (report .entry)) (swept .counted) (swept .«with_report»)) direction (period .start .0) (period .end .0) ⌝ }
 {
     let counted = swept.counted;
-    let reported = report::head_of(report).record_type == FORCED_WORK;
-    if !(swept.with_report & reported) & !some_forced(b, counted) {
+    let types = counted_types(b, counted);
+    if !types_meet(
+        types,
+        swept.with_report,
+        report::head_of(report).record_type,
+    ) {
         return true;
     }
     let lanes = lanes_of(b, report, swept, direction);

@@ -2,15 +2,14 @@ use borrow.Author.Needs.{needs}
 use mathlib.Core.Path.{_∙_}
 use Rattle.levels.proofs.Choosing.{records-levels}
 use Rattle.levels.proofs.Turns.{found-records}
-use Rattle.levels.proofs.Unforced.{fits-unreported}
+use Rattle.levels.proofs.Unforced.{fits-apart}
 use Rattle.levels.proofs.Bounds.{fits-unforced, fits-extremes, fits-swept}
 use Rattle.levels.proofs.Asked.{asked-enough}
 use Rattle.levels.proofs.fits.Statement.{statement}
 use Rattle.levels.proofs.fits.Tie as tie
 
 returns : tie.Need-returns
-returns c = fits-unreported _ _ _ _ _ _ _ _ _ (c .before .before .before .before .head-of .ensures)
-    (c .before .some-forced .ensures) (c .if1 .taken)
+returns c = fits-apart _ _ _ _ _ _ _ _ _ (c .before .before .head-of .ensures) (c .before .before .before .counted-types .ensures) (c .before .types-meet .ensures) (c .if1 .taken)
 
 returns-2 : tie.Need-returns-2
 returns-2 c = fits-unforced _ _ _ _ _ _ _ _ (records-levels _ _ _ _ (c .before .before .before .lanes-of .ensures))
@@ -42,6 +41,7 @@ pub fits-spec : {M : Type 1} → statement M
 fits-spec =
     tie.close
     (tie.spec
+    (λ c κs. search needs)
     (λ c κs. search needs)
     (λ c κs. search needs)
     returns
