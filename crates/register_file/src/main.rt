@@ -43,6 +43,7 @@ fn main() {
         return;
     }
     path[4095] = 0;
+    // one block more than a register has, so that a longer file is refused and not cut
     let mut register = [0u8; 465920];
     if is_word(&word[..length], b"answer") {
         answer(&path[..end], &mut register);
