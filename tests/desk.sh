@@ -49,7 +49,7 @@ help_lists_every_word() {
   local word
   ./desk help > "$room/help"
   told 'no argument is not help' cmp -s "$room/help" <(./desk)
-  for word in log remarks show compare bench test help; do
+  for word in log remarks set-up answer show compare bench test help; do
     told "help lacks $word" grep -q "^./desk $word " "$room/help"
   done
 }
