@@ -3,25 +3,8 @@
 use crate::codes::{Direction, Operation, RecordType, UnitKind, UnitState, RESERVE_SHUTDOWN};
 use crate::compose::{EntryFields, ReportFields};
 use crate::quantities::LAST_MINUTE;
+use crate::sample::{step, Step};
 use crate::worked_examples::D;
-
-/// A report, what it is, and its answer.
-pub struct Step {
-    /// In words.
-    pub what: &'static str,
-    /// The report.
-    pub report: ReportFields,
-    /// Number and warnings.
-    pub answer: (u8, u8),
-}
-
-fn step(what: &'static str, report: ReportFields, answer: (u8, u8)) -> Step {
-    Step {
-        what,
-        report,
-        answer,
-    }
-}
 
 /// The minute at which a clock shows this on 2026-03-01.
 fn at(hour: u32, minute: u32) -> u32 {
@@ -52,8 +35,8 @@ fn roster() -> Vec<u8> {
 
 /// The roster, then the reports.
 pub fn stream() -> Vec<u8> {
-    let reports = steps().into_iter().map(|step| step.report.bytes());
-    [roster(), reports.collect::<Vec<_>>().concat()].concat()
+    let reports = steps().into_iter().flat_map(|step| step.report.bytes());
+    roster().into_iter().chain(reports).collect()
 }
 
 /// The reports in order.
@@ -113,28 +96,32 @@ fn deratings_and_forced_work() -> Vec<Step> {
         .stamped(at(18, 8))
         .named(3);
     vec![
-        step("derating of 20,000 kW, 19:00 to 21:00", derating(), (0, 0)),
+        step(
+            "derating of 20,000 kW, 19:00 to 21:00",
+            derating(),
+            (0, 0, 0),
+        ),
         step(
             "forced work at 190,000 kW beside it: only 180,000 are left",
             forced(190_000),
-            (17, 0),
+            (17, 0, 0),
         ),
-        step("forced work at 180,000 kW", forced(180_000), (0, 0)),
-        step("a second derating over the first", overlapping, (15, 0)),
+        step("forced work at 180,000 kW", forced(180_000), (0, 0, 0)),
+        step("a second derating over the first", overlapping, (15, 0, 0)),
         step(
             "the first derating changed to end at 22:00, with a text",
             longer_derating(),
-            (0, 0),
+            (0, 0, 0),
         ),
         step(
             "the same change sent again, with the same ordinal",
             longer_derating(),
-            (13, 0),
+            (13, 0, 0),
         ),
         step(
             "a change of a record that was never created",
             longer_derating().named(99),
-            (12, 0),
+            (12, 0, 0),
         ),
     ]
 }
@@ -144,18 +131,18 @@ fn faulty_forms() -> Vec<Step> {
     let mut gap = later_derating().stepping(&[(at(22, 45), 20_000), (at(23, 0), 10_000)]);
     gap.parts[1].start += 1;
     vec![
-        step("a planned start at 22:37", from(at(22, 37)), (7, 0)),
+        step("a planned start at 22:37", from(at(22, 37)), (7, 0, 0)),
         step(
             "a planned start at 17:00, which has passed",
             from(at(17, 0)),
-            (6, 0),
+            (6, 0, 0),
         ),
         step(
             "a derating of 200,001 kW, Pmax being 200,000",
             later_derating().at(200_001),
-            (16, 0),
+            (16, 0, 0),
         ),
-        step("two parts with a minute between them", gap, (8, 0)),
+        step("two parts with a minute between them", gap, (8, 0, 2)),
     ]
 }
 
@@ -196,25 +183,33 @@ fn other_units() -> Vec<Step> {
     let by_owner_7 = |unit| derating_of(unit, 7, at(18, 15));
     let too_late = derating_of(3, 9, LAST_MINUTE.0 + 1);
     vec![
-        step("unit 5, which is not in the roster", by_owner_7(5), (3, 0)),
-        step("unit 3, reported by owner 7", by_owner_7(3), (3, 0)),
+        step(
+            "unit 5, which is not in the roster",
+            by_owner_7(5),
+            (3, 0, 0),
+        ),
+        step("unit 3, reported by owner 7", by_owner_7(3), (3, 0, 0)),
         step(
             "forced work at 110,000 kW, Pmax being 100,000",
             forced_storage(110_000, 19, 1),
-            (0, 2),
+            (0, 2, 0),
         ),
         step(
             "forced work at 15,000 kW, Pmin being 20,000",
             forced_storage(15_000, 20, 2),
-            (0, 4),
+            (0, 4, 0),
         ),
         step(
             "a stop with qualification 8 (RE), which no report may carry",
             planned_stop(RESERVE_SHUTDOWN),
-            (4, 0),
+            (4, 0, 0),
         ),
-        step("a planned stop of both directions", planned_stop(2), (0, 0)),
-        step("a stamp after the year 2049", too_late, (4, 0)),
+        step(
+            "a planned stop of both directions",
+            planned_stop(2),
+            (0, 0, 0),
+        ),
+        step("a stamp after the year 2049", too_late, (4, 0, 0)),
     ]
 }
 
@@ -252,22 +247,22 @@ fn stops() -> Vec<Step> {
         step(
             "a stop RA that began at 18:20, over the derating and the forced work",
             begun_stop(1, at(18, 20), 10),
-            (0, 1),
+            (0, 1, 0),
         ),
         step(
             "a stop RB that began at 18:40: the one before closes",
             second(),
-            (0, 9),
+            (0, 9, 0),
         ),
         step(
             "that stop withdrawn, though it has begun",
             withdrawal(second(), at(18, 50)),
-            (14, 0),
+            (14, 0, 0),
         ),
         step(
             "the forced work withdrawn",
             withdrawal(forced(0), at(18, 52)),
-            (0, 0),
+            (0, 0, 0),
         ),
     ]
 }
@@ -277,17 +272,17 @@ fn events() -> Vec<Step> {
         step(
             "event 1 at 19:50, the boiler is lit",
             event(1, at(19, 50)),
-            (0, 0),
+            (0, 0, 0),
         ),
         step(
             "event 4 at 20:00: no arrow from a lit boiler to work",
             event(4, at(20, 0)),
-            (18, 0),
+            (18, 0, 0),
         ),
         step(
             "a derating stamped 18:30, before the unit's last stamp",
             later_derating().stamped(at(18, 30)),
-            (10, 0),
+            (10, 0, 0),
         ),
     ]
 }

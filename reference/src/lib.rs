@@ -10,6 +10,8 @@ pub mod after;
 pub mod calendar;
 pub mod codes;
 pub mod compose;
+pub mod cover_faults;
+pub mod cover_sample;
 pub mod damage;
 pub mod evening;
 pub mod fields;

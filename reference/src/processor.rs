@@ -7,13 +7,16 @@ use crate::register::{question_1_register_whole, Block, BLOCK_SIZE, HEAD_LAYOUT}
 use crate::report::{question_2_report_whole, WholeReport};
 use crate::warnings::warnings;
 
-/// The answer: 0 or the number of the question that said no, and the warnings.
+/// The answer: 0 or the number of the question that said no, the warnings, and the part that was
+/// wrong.
 #[derive(Clone, Copy, Debug, PartialEq, Eq)]
 pub struct Answer {
     /// 0 if accepted.
     pub number: u8,
     /// The sum; 0 beside a refusal.
     pub warnings: u8,
+    /// Beside 8 the number of the part that breaks cover; 0 otherwise.
+    pub part: u8,
 }
 
 impl Answer {
@@ -22,6 +25,16 @@ impl Answer {
         Answer {
             number,
             warnings: 0,
+            part: 0,
+        }
+    }
+
+    /// "The answer to a report carries this number beside refusal 8 and 0 otherwise".
+    pub fn refusal_of_part(part: u32) -> Answer {
+        Answer {
+            // At most 100.
+            part: part as u8,
+            ..Answer::refusal(8)
         }
     }
 
@@ -30,6 +43,7 @@ impl Answer {
         Answer {
             number: 0,
             warnings,
+            part: 0,
         }
     }
 }
@@ -63,7 +77,7 @@ pub(crate) fn answer_in_block(block: &mut [u8], report: WholeReport) -> Answer {
     };
     let outcome = match ask(&before, report) {
         Ok(case) => Outcome::of(&case),
-        Err(number) => return Answer::refusal(number),
+        Err(refusal) => return refusal,
     };
     let warnings = warnings(&outcome, &outcome.block_after(&before));
     // The outcome borrows the report alone, so the block is free to be written.

@@ -6,8 +6,9 @@ use crate::codes::{Direction, EventCode, Operation, RecordType, UnitKind, UnitSt
 use crate::codes::{StartMark, END_MARK, RESERVE_SHUTDOWN};
 use crate::fields::all_zero;
 use crate::minutes::{at_every_change_point, in_every_minute, InMinute};
+use crate::processor::Answer;
 use crate::quantities::{Kilowatt, Minute, Period};
-use crate::record::{Record, MAX_PARTS};
+use crate::record::Record;
 use crate::register::{Block, SLOT_COUNT};
 use crate::report::{head, Report, WholeReport};
 use crate::unit::{PowerRange, Row, Unit};
@@ -50,12 +51,15 @@ const QUESTIONS: [(u8, Question); 15] = [
 ];
 
 /// Questions 4 to 19 of a report on a unit's block: the case they agree to, or the refusal.
-pub fn ask<'b, 'r>(block: &'b Block<'b>, report: WholeReport<'r>) -> Result<Case<'b, 'r>, u8> {
-    let report = question_4_fields_in_range(report).ok_or(4)?;
+pub fn ask<'b, 'r>(block: &'b Block<'b>, report: WholeReport<'r>) -> Result<Case<'b, 'r>, Answer> {
+    let report = question_4_fields_in_range(report).ok_or(Answer::refusal(4))?;
     let case = Case::new(block, report);
     for (number, question) in QUESTIONS {
         if case.asks(number) && !question(&case) {
-            return Err(number);
+            return Err(match cover_verdict(&case.report) {
+                Err(part) if number == 8 => Answer::refusal_of_part(part),
+                _ => Answer::refusal(number),
+            });
         }
     }
     Ok(case)
@@ -257,15 +261,21 @@ pub fn question_7_quarter_hours(case: &Case) -> bool {
 /// "Types 2–4: do 1 to 100 parts, each start < end, cover the period, in time order, without gap
 /// or overlap? Other types, and withdrawals: no parts?"
 pub fn question_8_cover(case: &Case) -> bool {
-    let Report {
-        operation,
-        record,
-        parts,
-    } = &case.report;
-    if !record.record_type.has_parts() || *operation == Operation::Withdraw {
-        return record.parts.is_empty();
+    cover_verdict(&case.report).is_ok()
+}
+
+/// Question 8 with the number of the part that is wrong. More than 100 parts are no whole report.
+fn cover_verdict(report: &Report) -> Result<(), u32> {
+    let Record {
+        record_type, parts, ..
+    } = &report.record;
+    let may_be = record_type.has_parts() && report.operation != Operation::Withdraw;
+    match (may_be, parts.is_empty()) {
+        (true, false) => report.parts.cover,
+        (false, true) => Ok(()),
+        // "a missing list, or a list where none may be, names 0"
+        _ => Err(0),
     }
-    (1..=MAX_PARTS).contains(&record.parts.len()) && parts.cover
 }
 
 /// "Is each part's power, left by 4, 0 to 99,999,999?"

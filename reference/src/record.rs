@@ -136,42 +136,57 @@ impl Record<'_> {
 }
 
 /// "Cover is judged head first: the first part fits, and the remaining parts cover what remains."
+/// "The judgement of cover now also says the number, from 1, of the first part that breaks it".
 #[derive(Clone, Copy, Debug)]
 pub struct Cover {
+    whole: Period,
     remains_from: Minute,
-    fits: bool,
+    parts: u32,
+    first_broken: u32,
 }
+
+/// More than the number of any part.
+const NO_PART: u32 = u32::MAX;
 
 impl Cover {
     /// Nothing is covered yet.
     pub fn of(whole: Period) -> Cover {
         Cover {
+            whole,
             remains_from: whole.start,
-            fits: true,
+            parts: 0,
+            first_broken: NO_PART,
         }
     }
 
     /// The next part. There is no early exit, so that the compiler can take several at once.
     pub fn add(&mut self, part: Period) {
-        self.fits &= part.start == self.remains_from;
-        self.add_until(part.end);
+        self.parts += 1;
+        let fits = (part.start == self.remains_from)
+            & (part.start < part.end)
+            & (part.end <= self.whole.end);
+        self.first_broken = self
+            .first_broken
+            .min(if fits { NO_PART } else { self.parts });
+        self.remains_from = part.end;
     }
 
-    /// The next part, which starts where the one before ends.
-    pub fn add_until(&mut self, end: Minute) {
-        self.fits &= self.remains_from < end;
-        self.remains_from = end;
-    }
-
-    /// Whether the parts cover the whole.
-    pub fn is_complete(self, whole: Period) -> bool {
-        self.fits && self.remains_from == whole.end
+    /// The verdict: Err has the number of the first part that breaks cover; "a list that stops
+    /// short names the last part", 0 where there is none.
+    pub fn verdict(self) -> Result<(), u32> {
+        if self.first_broken != NO_PART {
+            Err(self.first_broken)
+        } else if self.remains_from == self.whole.end {
+            Ok(())
+        } else {
+            Err(self.parts)
+        }
     }
 }
 
-/// Whether parts cover a whole.
-pub fn covers(whole: Period, parts: impl Iterator<Item = Period>) -> bool {
+/// Whether parts cover a whole, and which one breaks it.
+pub fn cover(whole: Period, parts: impl Iterator<Item = Period>) -> Result<(), u32> {
     let mut cover = Cover::of(whole);
     parts.for_each(|part| cover.add(part));
-    cover.is_complete(whole)
+    cover.verdict()
 }

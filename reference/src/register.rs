@@ -4,7 +4,7 @@ use crate::codes::{Direction, RecordType, StartMark};
 use crate::fields::{all_zero, put_u16, put_u32, u16_at, u32_at};
 use crate::quantities::{Minute, Period, MAX_POWER};
 use crate::questions::question_5_kind_carries;
-use crate::record::{Cover, Part, Parts, Record, MAX_PARTS, MRID_SIZE};
+use crate::record::{Part, Parts, Record, MAX_PARTS, MRID_SIZE};
 use crate::report::REVISIONS;
 use crate::unit::{Row, Unit, UnitLayout};
 
@@ -236,16 +236,16 @@ fn slot_parts_fit(record: &Record) -> bool {
     }
 }
 
-/// One pass, without an early exit, so that the compiler can take several pairs at once.
+/// Each pair's part starts where the one before ends. One pass, without an early exit, so that the
+/// compiler can take several pairs at once.
 fn pairs_fit(pairs: &[[u8; slot::PART_SIZE]], period: Period) -> bool {
-    let mut cover = Cover::of(period);
-    let mut powers_fit = true;
+    let (mut remains_from, mut fits) = (period.start, true);
     for pair in pairs {
         let Part { end, power } = Part::of_pair(pair);
-        cover.add_until(end);
-        powers_fit &= power <= MAX_POWER;
+        fits &= (remains_from < end) & (power <= MAX_POWER);
+        remains_from = end;
     }
-    powers_fit && cover.is_complete(period)
+    fits && remains_from == period.end
 }
 
 /// Question 5, "type 5 begun", "slot stamp ≤ last stamp", "begun start ≤ slot stamp".

@@ -110,8 +110,8 @@ pub struct PartFindings {
     pub latest: u32,
     /// "every part end after the stamp" is a multiple of 15.
     pub on_quarter_hours: bool,
-    /// The parts cover the period.
-    pub cover: bool,
+    /// The parts cover the period; Err has the number of the part that breaks it.
+    pub cover: Result<(), u32>,
     /// The highest power, a count; a negative one counts from 2^31 up, above every power.
     pub highest_power: u32,
 }
@@ -216,7 +216,7 @@ impl<'a> WholeReport<'a> {
         PartFindings {
             latest,
             on_quarter_hours,
-            cover: cover.is_complete(period),
+            cover: cover.verdict(),
             highest_power,
         }
     }

@@ -2,6 +2,7 @@
 
 use crate::codes::RecordType;
 use crate::compose::ReportFields;
+use crate::cover_sample;
 use crate::damage;
 use crate::evening;
 use crate::processor::answer;
@@ -22,11 +23,30 @@ pub struct Sample {
     pub bytes: Vec<u8>,
 }
 
+/// A report of a sample that is explained line by line.
+pub struct Step {
+    /// In words.
+    pub what: &'static str,
+    /// The report.
+    pub report: ReportFields,
+    /// Number, warnings and part.
+    pub answer: (u8, u8, u8),
+}
+
+pub(crate) fn step(what: &'static str, report: ReportFields, answer: (u8, u8, u8)) -> Step {
+    Step {
+        what,
+        report,
+        answer,
+    }
+}
+
 /// All samples, those of roster A first.
 pub fn samples() -> Vec<Sample> {
     let fixed = [
         ("roster-a-log", stream(&roster_a_reports())),
         ("evening", evening::stream()),
+        ("cover", cover_sample::stream()),
         ("roster-a", roster_a()),
         ("register-a", register_after(&[])),
         ("register-a-after", register_after(&roster_a_reports())),

@@ -12,7 +12,7 @@ use std::io::Write;
 /// The most roster entries that the log program reads.
 pub const LOG_ENTRIES: usize = 8;
 
-const HEADER: &str = "no unit answer warn stamp";
+const HEADER: &str = "no unit answer warn part stamp";
 
 /// What a line ends with.
 #[derive(Clone, Copy)]
@@ -68,6 +68,7 @@ impl Totals {
             Answer {
                 number: 0,
                 warnings: 0,
+                ..
             } => self.clean += 1,
             Answer { number: 0, .. } => self.warned += 1,
             _ => self.refused += 1,
@@ -123,7 +124,7 @@ fn put_reports(log: &mut Vec<u8>, reader: &mut Reader, register: &mut [u8], endi
     while !reader.input.is_empty() {
         line += 1;
         let Some(whole) = reader.report().and_then(question_2_report_whole) else {
-            put(log, format_args!("{line} - 2 0 -"));
+            put(log, format_args!("{line} - 2 0 0 -"));
             end_line(log, ending, "");
             totals.count(Answer::refusal(2));
             break;
@@ -144,8 +145,16 @@ fn put_reports(log: &mut Vec<u8>, reader: &mut Reader, register: &mut [u8], endi
 
 /// A line up to its stamp.
 fn put_answer(log: &mut Vec<u8>, line: u64, report: &WholeReport, answer: Answer) {
-    let (unit, Answer { number, warnings }) = (report.unit(), answer);
-    put(log, format_args!("{line} {unit} {number} {warnings} "));
+    let unit = report.unit();
+    let Answer {
+        number,
+        warnings,
+        part,
+    } = answer;
+    put(
+        log,
+        format_args!("{line} {unit} {number} {warnings} {part} "),
+    );
     match date(report.stamp()) {
         Ok(text) => log.extend_from_slice(&text),
         Err(_) => log.push(b'-'),

@@ -13,12 +13,12 @@ const ROUTINE_MAINTENANCE: u8 = 2;
 
 /// The log of roster A, to the byte.
 pub const ROSTER_A_LOG: &str = "\
-no unit answer warn stamp
-1 1 0 0 2026-03-01 00:10
-2 1 17 0 2026-03-01 00:11
-3 1 0 0 2026-03-01 00:11
-4 1 0 1 2026-03-01 00:25
-5 2 3 0 2026-03-01 00:26
+no unit answer warn part stamp
+1 1 0 0 0 2026-03-01 00:10
+2 1 17 0 0 2026-03-01 00:11
+3 1 0 0 0 2026-03-01 00:11
+4 1 0 1 0 2026-03-01 00:25
+5 2 3 0 0 2026-03-01 00:26
 total 2 1 2
 ";
 
@@ -30,7 +30,7 @@ pub struct Example {
     pub starred: bool,
     /// The reports' bytes.
     pub reports: Vec<Vec<u8>>,
-    /// The answers, (number, warnings).
+    /// The answers.
     pub answers: Vec<Answer>,
 }
 
@@ -121,15 +121,20 @@ fn of_type(record_type: RecordType) -> ReportFields {
 fn example(
     name: &'static str,
     starred: bool,
-    steps: impl IntoIterator<Item = (ReportFields, (u8, u8))>,
+    steps: impl IntoIterator<Item = (ReportFields, (u8, u8, u8))>,
 ) -> Example {
     let (reports, answers) = steps
         .into_iter()
         .zip(1..)
-        .map(|((report, (number, warnings)), place)| {
+        .map(|((report, (number, warnings, part)), place)| {
             let is_event = report.record_type == RecordType::Event as u8;
             let report = report.named(if is_event { 0 } else { place });
-            (report.bytes(), Answer { number, warnings })
+            let answer = Answer {
+                number,
+                warnings,
+                part,
+            };
+            (report.bytes(), answer)
         })
         .unzip();
     Example {
@@ -141,7 +146,7 @@ fn example(
 }
 
 /// An example of one report.
-fn one(name: &'static str, starred: bool, report: ReportFields, answer: (u8, u8)) -> Example {
+fn one(name: &'static str, starred: bool, report: ReportFields, answer: (u8, u8, u8)) -> Example {
     example(name, starred, [(report, answer)])
 }
 
@@ -151,9 +156,9 @@ fn two(
     starred: bool,
     first: ReportFields,
     second: ReportFields,
-    answer: (u8, u8),
+    answer: (u8, u8, u8),
 ) -> Example {
-    example(name, starred, [(first, (0, 0)), (second, answer)])
+    example(name, starred, [(first, (0, 0, 0)), (second, answer)])
 }
 
 /// "Reports on fresh roster A, unit 1, stamp D+10", in the paper's order.
@@ -167,9 +172,9 @@ pub fn examples() -> Vec<Example> {
     examples.extend(derating_examples());
     examples.extend(state_examples());
     examples.extend([
-        one("stamp-before", false, derating().stamped(D - 1), (10, 0)),
-        one("level-above", true, must_run(200_001), (0, 2)),
-        one("level-below", false, must_run(79_999), (0, 4)),
+        one("stamp-before", false, derating().stamped(D - 1), (10, 0, 0)),
+        one("level-above", true, must_run(200_001), (0, 2, 0)),
+        one("level-below", false, must_run(79_999), (0, 4, 0)),
         ninth_record(),
     ]);
     examples
@@ -181,16 +186,21 @@ fn derating_examples() -> [Example; 10] {
     gap.parts[1].start = D + 91;
     let from = |start, end| derating_from(D + start, D + end);
     [
-        one("owner-9", true, of_owner_9, (3, 0)),
-        one("unit-3", false, on_unit_3, (3, 0)),
-        one("derating", true, derating(), (0, 0)),
-        one("start-61", true, from(61, 120), (7, 0)),
-        one("planned-start-10", true, from(10, 120), (6, 0)),
-        one("gap", true, gap, (8, 0)),
-        one("derating-p-max", true, derating_of(200_000), (0, 0)),
-        one("derating-above-p-max", false, derating_of(200_001), (16, 0)),
-        two("touching", true, derating(), from(120, 180), (0, 0)),
-        two("overlapping", false, derating(), from(105, 180), (15, 0)),
+        one("owner-9", true, of_owner_9, (3, 0, 0)),
+        one("unit-3", false, on_unit_3, (3, 0, 0)),
+        one("derating", true, derating(), (0, 0, 0)),
+        one("start-61", true, from(61, 120), (7, 0, 0)),
+        one("planned-start-10", true, from(10, 120), (6, 0, 0)),
+        one("gap", true, gap, (8, 0, 2)),
+        one("derating-p-max", true, derating_of(200_000), (0, 0, 0)),
+        one(
+            "derating-above-p-max",
+            false,
+            derating_of(200_001),
+            (16, 0, 0),
+        ),
+        two("touching", true, derating(), from(120, 180), (0, 0, 0)),
+        two("overlapping", false, derating(), from(105, 180), (15, 0, 0)),
     ]
 }
 
@@ -199,17 +209,23 @@ fn state_examples() -> [Example; 5] {
     let maintenance = begun_outage(D + 8, ROUTINE_MAINTENANCE);
     let repair_again = begun_outage(D + 8, EMERGENCY_REPAIR);
     [
-        one("event-5", true, event(5, D + 10), (0, 0)),
-        one("event-5-at-since", true, event(5, D), (18, 0)),
-        one("event-1", false, event(1, D + 10), (18, 0)),
+        one("event-5", true, event(5, D + 10), (0, 0, 0)),
+        one("event-5-at-since", true, event(5, D), (18, 0, 0)),
+        one("event-1", false, event(1, D + 10), (18, 0, 0)),
         two(
             "repair-then-maintenance",
             true,
             repair(),
             maintenance,
-            (0, 8),
+            (0, 8, 0),
         ),
-        two("repair-then-repair", false, repair(), repair_again, (18, 0)),
+        two(
+            "repair-then-repair",
+            false,
+            repair(),
+            repair_again,
+            (18, 0, 0),
+        ),
     ]
 }
 
@@ -229,7 +245,7 @@ fn ninth_record() -> Example {
     let steps = (0..9).map(|place| {
         let start = D + 60 + 60 * place;
         let number = if place < 8 { 0 } else { 19 };
-        (derating_from(start, start + 60), (number, 0))
+        (derating_from(start, start + 60), (number, 0, 0))
     });
     example("ninth-record", false, steps)
 }
@@ -237,11 +253,11 @@ fn ninth_record() -> Example {
 /// "Bench findings to rule out".
 pub fn bench_findings() -> Vec<Example> {
     let stepping = || derating().stepping(&[(D + 90, 20_000), (D + 120, 30_000)]);
-    let units = [(on_unit(3), (3, 0)), (on_unit(2), (3, 0))];
+    let units = [(on_unit(3), (3, 0, 0)), (on_unit(2), (3, 0, 0))];
     let steps_inside = [
-        (stepping(), (0, 0)),
-        (must_run(170_001), (17, 0)),
-        (must_run(170_000), (0, 0)),
+        (stepping(), (0, 0, 0)),
+        (must_run(170_001), (17, 0, 0)),
+        (must_run(170_000), (0, 0, 0)),
     ];
     vec![
         example("unknown-and-other-unit", false, units),
@@ -251,7 +267,7 @@ pub fn bench_findings() -> Vec<Example> {
             false,
             must_run(170_001),
             stepping(),
-            (17, 0),
+            (17, 0, 0),
         ),
         dead_slots(),
         refused_stamp(),
@@ -264,11 +280,11 @@ fn refused_stamp() -> Example {
     let later = derating_from(D + 180, D + 240).stamped(D + 50);
     let level = || must_run(180_000).stamped(D + 20);
     let steps = [
-        (derating(), (0, 0)),
-        (overlapping, (15, 0)),
-        (level(), (0, 0)),
-        (later, (0, 0)),
-        (level(), (10, 0)),
+        (derating(), (0, 0, 0)),
+        (overlapping, (15, 0, 0)),
+        (level(), (0, 0, 0)),
+        (later, (0, 0, 0)),
+        (level(), (10, 0, 0)),
     ];
     example("refused-stamp", false, steps)
 }
@@ -277,10 +293,10 @@ fn refused_stamp() -> Example {
 fn dead_slots() -> Example {
     let full = (0..8).map(|place| {
         let start = D + 60 + 15 * place;
-        (derating_from(start, start + 15), (0, 0))
+        (derating_from(start, start + 15), (0, 0, 0))
     });
     let begun_over_the_dead = derating_from(D + 60, D + 240).begun().stamped(D + 180);
-    let steps = full.chain([(begun_over_the_dead, (0, 0))]);
+    let steps = full.chain([(begun_over_the_dead, (0, 0, 0))]);
     let mut example = example("dead-slots", false, steps);
     let reused = derating_from(D + 240, D + 300).stamped(D + 180).named(1);
     example.reports.push(reused.bytes());

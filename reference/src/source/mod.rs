@@ -7,6 +7,7 @@ mod drafts;
 mod registers;
 mod rosters;
 mod spoilers;
+mod uncovered;
 
 use crate::codes::Operation;
 use crate::compose::ReportFields;

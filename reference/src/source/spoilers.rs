@@ -1,5 +1,6 @@
 //! Small changes meant to spoil a report, or to bring it to an edge.
 
+use super::uncovered::spoil_cover;
 use crate::compose::{PartFields, ReportFields};
 use crate::quantities::{LAST_MINUTE, MAX_POWER};
 use crate::random::Random;
@@ -13,7 +14,8 @@ pub(super) fn spoil(random: &mut Random, block: &Block, units: u32, fields: &mut
         0 => spoil_unit(random, units, fields),
         1 => spoil_code(random, fields),
         2 | 3 => spoil_time(random, block, fields),
-        4 | 5 => spoil_parts(random, fields),
+        4 => spoil_parts(random, fields),
+        5 => spoil_cover(random, fields),
         6 => spoil_power(random, fields),
         7 | 8 => spoil_kind(random, fields),
         _ => spoil_mrid(random, block, fields),

@@ -97,7 +97,7 @@ impl Progress {
         self.lines += 1;
         let rest = line.strip_prefix('1').unwrap_or_default();
         log.extend_from_slice(format!("{}{rest}\n", self.lines).as_bytes());
-        line.ends_with(" - 2 0 -")
+        line.ends_with(" - 2 0 0 -")
     }
 
     /// Whether a report that is not whole ended the run.
@@ -132,7 +132,7 @@ fn next_length(pending: &[u8], ended: bool) -> Option<usize> {
 fn answer_file(path: &Path) -> Result<(), String> {
     let (path, mut register, mode) = read_register(path)?;
     let (mut pending, mut progress, mut ended) = (Vec::new(), Progress::default(), false);
-    let mut lines = b"no unit answer warn stamp\n".to_vec();
+    let mut lines = b"no unit answer warn part stamp\n".to_vec();
     while !ended {
         ended = read_more(&mut pending)? == 0;
         let before = register.clone();

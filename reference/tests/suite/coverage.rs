@@ -1,12 +1,13 @@
 //! What the random source reaches: every answer, every sum of warnings, every deep situation.
 
 use reference::codes::{Direction, Operation, RecordType, UnitKind};
+use reference::cover_faults::{cover_fault, KINDS};
 use reference::quantities::{Kilowatt, Minute, LAST_MINUTE};
 use reference::questions::{question_17_level_limits, question_4_fields_in_range, Case};
 use reference::random::Random;
 use reference::record::{Record, MAX_PARTS};
 use reference::register::{question_1_register_whole, Block, BLOCK_SIZE, SLOT_COUNT};
-use reference::report::{question_2_report_whole, Report};
+use reference::report::{question_2_report_whole, Report, WholeReport};
 use reference::source::{damaged_register, whole_register, Source};
 use reference::{answer, Answer};
 use std::collections::{BTreeMap, HashSet};
@@ -401,13 +402,27 @@ fn note_times(table: &mut Table, seen: &Seen) {
     ]);
 }
 
+/// The way in which a list broke cover, read from the report, and that the part named is its.
+fn note_cover(table: &mut Table, report: &WholeReport, answer: Answer) {
+    let fault = cover_fault(report).filter(|_| answer.number == 8);
+    let part = fault.map_or(0, |fault| fault.part);
+    assert_eq!(usize::from(answer.part), part, "{:?}", report.bytes());
+    for kind in KINDS {
+        table.note(kind, fault.is_some_and(|fault| fault.kind == Some(kind)));
+    }
+}
+
 /// Answers a report, counts the answer and notes what it met.
 fn see(table: &mut Table, register: &mut [u8], report: &[u8]) -> Answer {
     let before = register.to_vec();
     let given = answer(register, report);
     table.count(given);
     assert!(given.number == 0 || before == register, "a refusal wrote");
-    let typed = question_2_report_whole(report)
+    let whole = question_2_report_whole(report);
+    if let Some(whole) = &whole {
+        note_cover(table, whole, given);
+    }
+    let typed = whole
         .filter(|_| given.number != 1)
         .filter(|_| given.number != 3)
         .and_then(|whole| Some((whole.unit(), question_4_fields_in_range(whole)?)));

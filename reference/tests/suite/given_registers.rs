@@ -66,7 +66,7 @@ fn a_derating_above_p_max() {
     let mut register = TestRegister::given(W1, [stored(2, 200_001)]);
     register.expect([(must_run(W1, 0), 17)]);
     let mut register = TestRegister::given(W1, [stored(2, 200_000)]);
-    assert_eq!(register.answer(&must_run(W1, 0)), (0, 4));
+    assert_eq!(register.answer(&must_run(W1, 0)), (0, 4, 0));
 }
 
 /// 55: the minute is one of the reported record's, whoever broke the rule in it.
@@ -84,7 +84,7 @@ fn a_rule_broken_before() {
     TestRegister::given(W1, slots).expect([(withdrawn, 0)]);
     assert_eq!(
         TestRegister::given(W1, broken()).answer(&begun_outage(W1, 1, D + 5)),
-        (0, 1)
+        (0, 1, 0)
     );
 }
 
@@ -107,7 +107,7 @@ fn a_begun_stop_beside_another_state() {
     register.expect([(event(5, D + 5), 0)]);
     assert!(register.slot(W1, 0).iter().all(|&byte| byte == 0));
     let mut register = TestRegister::given(W1, [begun_stop()]);
-    assert_eq!(register.answer(&begun_outage(W1, 1, D + 5)), (0, 8));
+    assert_eq!(register.answer(&begun_outage(W1, 1, D + 5)), (0, 8, 0));
 }
 
 /// 37: live by the report's stamp, whatever the last stamp is.

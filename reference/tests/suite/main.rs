@@ -3,6 +3,7 @@
 mod calendar;
 mod command_line;
 mod compare_logs;
+mod cover;
 mod coverage;
 mod given_registers;
 mod minutes;
@@ -65,18 +66,18 @@ impl TestRegister {
     }
 
     /// The answer to a report, after which the register is whole; a refusal writes nothing.
-    fn answer(&mut self, report: &ReportFields) -> (u8, u8) {
+    fn answer(&mut self, report: &ReportFields) -> (u8, u8, u8) {
         let before = self.bytes.clone();
         let given = answer(&mut self.bytes, &report.bytes());
         assert!(given.number == 0 || self.bytes == before);
         assert!(question_1_register_whole(&self.bytes));
-        (given.number, given.warnings)
+        (given.number, given.warnings, given.part)
     }
 
-    /// Answers without warnings, one after another.
+    /// Answers without warnings and part, one after another.
     fn expect<const N: usize>(&mut self, steps: [(ReportFields, u8); N]) {
         for (place, (report, number)) in steps.iter().enumerate() {
-            assert_eq!(self.answer(report), (*number, 0), "report {}", place + 1);
+            assert_eq!(self.answer(report), (*number, 0, 0), "report {}", place + 1);
         }
     }
 

@@ -9,7 +9,7 @@ use reference::questions::{
     Case,
 };
 use reference::random::Random;
-use reference::record::{covers, Record};
+use reference::record::{cover, Record};
 use reference::register::{write_slot, Block, BLOCK_SIZE, SLOT_SIZE};
 use reference::report::question_2_report_whole;
 use reference::source::Source;
@@ -191,7 +191,7 @@ fn cover_minute_by_minute() {
         }
         let literal = covers_each_minute(whole, &parts);
         assert_eq!(
-            covers(whole, parts.iter().copied()),
+            cover(whole, parts.iter().copied()).is_ok(),
             literal,
             "{whole:?} {parts:?}"
         );

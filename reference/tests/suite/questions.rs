@@ -307,7 +307,7 @@ fn question_9() {
     assert_eq!(fresh(&second), 9);
     assert_eq!(
         TestRegister::new().answer(&must_run(W1, 99_999_999)),
-        (0, 2)
+        (0, 2, 0)
     );
 }
 
@@ -470,7 +470,7 @@ fn question_15_closes_older_begun_outages() {
         (towards(3, stop(2, D + 8, 2)), 15),
         (outage(M1).named(4), 15),
     ]);
-    assert_eq!(register.answer(&stop(2, D + 6, 2)), (0, 8));
+    assert_eq!(register.answer(&stop(2, D + 6, 2)), (0, 8, 0));
     assert!(
         register.slot(M1, 0)[8..24] == [2; 16],
         "48: the older one's slot is free"
@@ -489,7 +489,7 @@ fn question_15_closes_older_begun_outages() {
         .begun()
         .over(D + 20, D + 120)
         .stamped(D + 30);
-    assert_eq!(register.answer(&begins), (0, 8));
+    assert_eq!(register.answer(&begins), (0, 8, 0));
     assert!(register.slot(Z1, 1).iter().all(|&byte| byte == 0));
 }
 
@@ -499,13 +499,13 @@ fn question_15_directions() {
     let mut register = TestRegister::new();
     register.expect([(stop(1, D + 1, 1), 0), (stop(2, D + 2, 2), 0)]);
     // One of both directions closes both, one of a single direction closes it whole.
-    assert_eq!(register.answer(&stop(3, D + 3, 3)), (0, 8));
+    assert_eq!(register.answer(&stop(3, D + 3, 3)), (0, 8, 0));
     assert!(
         register.slot(A, 0)[8..24] == [3; 16] && register.slot(A, 1).iter().all(|&byte| byte == 0)
     );
-    assert_eq!(register.answer(&stop(2, D + 4, 4)), (0, 8));
+    assert_eq!(register.answer(&stop(2, D + 4, 4)), (0, 8, 0));
     assert!(register.slot(A, 0)[8..24] == [4; 16]);
-    assert_eq!(register.answer(&stop(1, D + 3, 5)), (0, 0));
+    assert_eq!(register.answer(&stop(1, D + 3, 5)), (0, 0, 0));
     assert!(register.slot(A, 1)[8..24] == [5; 16]);
 }
 
@@ -562,10 +562,16 @@ fn question_17_w1_and_m1() {
     let mut register = TestRegister::new();
     assert_eq!(
         register.answer(&towards(2, derating(M1).at(20_000))),
-        (0, 0)
+        (0, 0, 0)
     );
-    assert_eq!(register.answer(&towards(2, must_run(M1, 40_001))), (17, 0));
-    assert_eq!(register.answer(&towards(2, must_run(M1, 40_000))), (0, 0));
+    assert_eq!(
+        register.answer(&towards(2, must_run(M1, 40_001))),
+        (17, 0, 0)
+    );
+    assert_eq!(
+        register.answer(&towards(2, must_run(M1, 40_000))),
+        (0, 0, 0)
+    );
 }
 
 #[test]
@@ -642,7 +648,7 @@ fn question_18_events() {
                 Some((state, qualification)) => (0, (state, qualification, 7, 10)),
                 None => (18, (state, qualification, 0, 0)),
             };
-            assert_eq!(given, (number, 0), "event {code} in {state}");
+            assert_eq!(given, (number, 0, 0), "event {code} in {state}");
             assert_eq!(register.row(W1), row);
         }
     }
@@ -657,7 +663,7 @@ fn question_18_outages_and_off_grid_work() {
             let number = if (state, reason) == (1, 1) { 18 } else { 0 };
             assert_eq!(
                 register.answer(&begun_outage(W1, reason, D + 5)),
-                (number, 0)
+                (number, 0, 0)
             );
             if number == 0 {
                 assert_eq!(register.row(W1), (1, reason, 5, 10));
@@ -665,7 +671,7 @@ fn question_18_outages_and_off_grid_work() {
         }
         let mut register = TestRegister::in_state(state, qualification);
         let number = if state == 5 { 0 } else { 18 };
-        assert_eq!(register.answer(&off_grid(D + 5)), (number, 0));
+        assert_eq!(register.answer(&off_grid(D + 5)), (number, 0, 0));
         if number == 0 {
             assert_eq!(register.row(W1), (6, 2, 5, 10));
         }
@@ -674,7 +680,7 @@ fn question_18_outages_and_off_grid_work() {
     for reason in 1..=7 {
         assert_eq!(
             TestRegister::in_state(1, 8).answer(&begun_outage(W1, reason, D + 5)),
-            (0, 0)
+            (0, 0, 0)
         );
     }
 }
@@ -718,7 +724,7 @@ fn question_19() {
     };
     let mut register = TestRegister::new();
     for report in records(7, 15) {
-        assert_eq!(register.answer(&report), (0, 0));
+        assert_eq!(register.answer(&report), (0, 0, 0));
     }
     register.expect([
         (off_grid(D + 5), 0),
@@ -731,7 +737,7 @@ fn question_19() {
     let mut full = TestRegister {
         bytes: register.bytes.clone(),
     };
-    assert_eq!(full.answer(&begun_outage(W1, 1, D + 8)), (0, 9));
+    assert_eq!(full.answer(&begun_outage(W1, 1, D + 8)), (0, 9, 0));
     assert!(
         full.slot(W1, 7)[2] == 1,
         "68: the lowest free slot is the one that left"
@@ -857,7 +863,7 @@ fn state_changes_end_begun_records() {
     assert_eq!(register.row(W1), (5, 0, 8, 10));
     let types = |register: &TestRegister| [0, 1, 2].map(|index| register.slot(W1, index)[2]);
     assert_eq!(types(&register), [1, 0, 2]);
-    assert_eq!(register.answer(&begun_outage(W1, 1, D + 9)), (0, 1));
+    assert_eq!(register.answer(&begun_outage(W1, 1, D + 9)), (0, 1, 0));
     assert_eq!(types(&register), [1, 1, 2]);
     register.expect([(event(1, D + 10), 0)]);
     assert_eq!(types(&register), [1, 0, 2]);
@@ -873,7 +879,8 @@ fn the_first_no_is_the_answer() {
     (report.stamp, report.operation) = (D - 1, 2);
     let mut register = TestRegister::new();
     let mut next = |report: &ReportFields, number| {
-        assert_eq!(register.answer(report), (number, 0));
+        let part = u8::from(number == 8);
+        assert_eq!(register.answer(report), (number, 0, part));
     };
     next(&report, 3);
     report.unit = W1;

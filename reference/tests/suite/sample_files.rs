@@ -1,9 +1,8 @@
 //! The files in samples/ are what the named samples give.
 
-use reference::evening::steps;
-use reference::sample::sample;
-use reference::shift_log;
+use reference::sample::{sample, Step};
 use reference::worked_examples::ROSTER_A_LOG;
+use reference::{cover_sample, evening, shift_log};
 use std::path::PathBuf;
 
 fn file(name: &str) -> Vec<u8> {
@@ -17,7 +16,11 @@ fn text(name: &str) -> String {
 
 #[test]
 fn the_files_are_the_samples_and_their_logs() {
-    for (name, stem) in [("roster-a-log", "roster-a"), ("evening", "evening")] {
+    for (name, stem) in [
+        ("roster-a-log", "roster-a"),
+        ("evening", "evening"),
+        ("cover", "cover"),
+    ] {
         let stream = file(&format!("{stem}.stream"));
         assert!(stream == sample(name).unwrap(), "samples/{stem}.stream");
         let log = String::from_utf8(shift_log(&stream)).unwrap();
@@ -26,28 +29,42 @@ fn the_files_are_the_samples_and_their_logs() {
     assert_eq!(text("roster-a.log"), ROSTER_A_LOG);
 }
 
+/// The samples that are explained line by line.
+fn explained() -> [(&'static str, Vec<Step>); 2] {
+    [
+        ("evening", evening::steps()),
+        ("cover", cover_sample::steps()),
+    ]
+}
+
 #[test]
-fn the_evening_is_answered_as_it_says() {
-    let log = String::from_utf8(shift_log(&sample("evening").unwrap())).unwrap();
-    let lines: Vec<&str> = log.lines().collect();
-    let steps = steps();
-    assert_eq!(lines.len(), steps.len() + 2);
-    for ((step, line), number) in steps.iter().zip(&lines[1..]).zip(1..) {
-        let (answer, warnings) = step.answer;
-        let expected = format!("{number} {} {answer} {warnings} ", step.report.unit);
-        assert!(line.starts_with(&expected), "{}: {line}", step.what);
+fn the_steps_are_answered_as_they_say() {
+    for (name, steps) in explained() {
+        let log = String::from_utf8(shift_log(&sample(name).unwrap())).unwrap();
+        let lines: Vec<&str> = log.lines().collect();
+        assert_eq!(lines.len(), steps.len() + 2);
+        for ((step, line), number) in steps.iter().zip(&lines[1..]).zip(1..) {
+            let (answer, warnings, part) = step.answer;
+            let expected = format!("{number} {} {answer} {warnings} {part} ", step.report.unit);
+            assert!(line.starts_with(&expected), "{}: {line}", step.what);
+        }
     }
 }
 
 #[test]
-fn the_readme_explains_the_evening_line_by_line() {
+fn the_readme_explains_the_steps_line_by_line() {
     let readme = text("README.md");
-    for (step, number) in steps().iter().zip(1..) {
-        let (unit, (answer, warnings)) = (step.report.unit, step.answer);
-        let row = format!(
-            "| {number} | {unit} | {answer} | {warnings} | {} |\n",
-            step.what
-        );
-        assert!(readme.contains(&row), "samples/README.md lacks {row}");
+    for (name, steps) in explained() {
+        for (step, number) in steps.iter().zip(1..) {
+            let (unit, (answer, warnings, part)) = (step.report.unit, step.answer);
+            let row = format!(
+                "| {number} | {unit} | {answer} | {warnings} | {part} | {} |\n",
+                step.what
+            );
+            assert!(
+                readme.contains(&row),
+                "samples/README.md, {name}: lacks {row}"
+            );
+        }
     }
 }

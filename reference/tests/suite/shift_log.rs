@@ -7,7 +7,7 @@ use reference::source::Source;
 use reference::worked_examples::{roster_a, roster_a_reports, D};
 use reference::{remarks, shift_log};
 
-const HEADER: &str = "no unit answer warn stamp\n";
+const HEADER: &str = "no unit answer warn part stamp\n";
 
 fn log(input: &[u8]) -> String {
     String::from_utf8(shift_log(input)).unwrap()
@@ -22,7 +22,7 @@ fn first() -> Vec<u8> {
     roster_a_reports().swap_remove(0)
 }
 
-const FIRST: &str = "1 1 0 0 2026-03-01 00:10\n";
+const FIRST: &str = "1 1 0 0 0 2026-03-01 00:10\n";
 
 #[test]
 fn no_reports() {
@@ -47,8 +47,8 @@ fn roster_faults() {
 
 #[test]
 fn one_byte_of_a_mark_is_a_report() {
-    assert_eq!(lines(&[0x4A]), "1 - 2 0 -\ntotal 0 0 1\n");
-    assert_eq!(lines(&[0x4A, 0x48]), "1 - 2 0 -\ntotal 0 0 1\n");
+    assert_eq!(lines(&[0x4A]), "1 - 2 0 0 -\ntotal 0 0 1\n");
+    assert_eq!(lines(&[0x4A, 0x48]), "1 - 2 0 0 -\ntotal 0 0 1\n");
 }
 
 #[test]
@@ -61,11 +61,11 @@ fn eight_entries_and_a_ninth() {
     let ninth = &roster_a()[..28];
     for cut in [28, 27, 2] {
         let nine = [&eight[..], &ninth[..cut]].concat();
-        assert_eq!(log(&nine), [HEADER, "1 - 2 0 -\ntotal 0 0 1\n"].concat());
+        assert_eq!(log(&nine), [HEADER, "1 - 2 0 0 -\ntotal 0 0 1\n"].concat());
     }
     // Even where the ninth entry and what follows are long enough for a report.
     let long = [&eight[..], ninth, &first(), &first(), &first()].concat();
-    assert_eq!(log(&long), [HEADER, "1 - 2 0 -\ntotal 0 0 1\n"].concat());
+    assert_eq!(log(&long), [HEADER, "1 - 2 0 0 -\ntotal 0 0 1\n"].concat());
 }
 
 #[test]
@@ -75,14 +75,14 @@ fn a_run_ends_at_the_first_report_that_is_not_whole() {
         let input = [&good[..], &good[..cut]].concat();
         assert_eq!(
             lines(&input),
-            format!("{FIRST}2 - 2 0 -\ntotal 1 0 1\n"),
+            format!("{FIRST}2 - 2 0 0 -\ntotal 1 0 1\n"),
             "{cut}"
         );
     }
     let mut broken = good.clone();
     broken[46] = 1;
     let input = [&good[..], &broken, &good].concat();
-    assert_eq!(lines(&input), format!("{FIRST}2 - 2 0 -\ntotal 1 0 1\n"));
+    assert_eq!(lines(&input), format!("{FIRST}2 - 2 0 0 -\ntotal 1 0 1\n"));
 }
 
 #[test]
@@ -91,7 +91,7 @@ fn counts_out_of_range_end_the_run() {
         let mut report = first();
         report[at..at + 2].copy_from_slice(&count.to_le_bytes());
         report.resize(50 + 16 * 101 + 201, 0);
-        assert_eq!(lines(&report), "1 - 2 0 -\ntotal 0 0 1\n");
+        assert_eq!(lines(&report), "1 - 2 0 0 -\ntotal 0 0 1\n");
     }
 }
 
@@ -109,13 +109,13 @@ fn units_and_stamps_as_they_stand() {
     ]
     .concat();
     let expected = "\
-1 0 3 0 2026-03-01 00:10
-2 65535 3 0 2026-03-01 00:10
-3 9 3 0 2026-03-01 00:10
-4 8 3 0 -
-5 1 4 0 -
-6 1 6 0 2049-12-31 23:59
-7 1 10 0 2000-01-01 00:00
+1 0 3 0 0 2026-03-01 00:10
+2 65535 3 0 0 2026-03-01 00:10
+3 9 3 0 0 2026-03-01 00:10
+4 8 3 0 0 -
+5 1 4 0 0 -
+6 1 6 0 0 2049-12-31 23:59
+7 1 10 0 0 2000-01-01 00:00
 total 0 0 7
 ";
     assert_eq!(lines(&input), expected);
@@ -129,9 +129,9 @@ fn totals_tell_clean_warned_and_refused_apart() {
     });
     let input = [outage.bytes(), second.bytes(), second.bytes()].concat();
     let expected = "\
-1 1 0 0 2026-03-01 00:10
-2 1 0 8 2026-03-01 00:10
-3 1 11 0 2026-03-01 00:10
+1 1 0 0 0 2026-03-01 00:10
+2 1 0 8 0 2026-03-01 00:10
+3 1 11 0 0 2026-03-01 00:10
 total 1 1 1
 ";
     assert_eq!(lines(&input), expected);
@@ -150,14 +150,14 @@ fn remarks_of_the_texts() {
         hex(0x7F..=0x7F),
     ];
     let expected = [
-        "no unit answer warn stamp | remark".to_string(),
-        format!("1 1 0 0 2026-03-01 00:10 | {}", low.concat()),
-        format!("2 1 11 0 2026-03-01 00:10 | {}", hex(0x80..=0xFF)),
-        r"3 1 11 0 2026-03-01 00:10 | \\".to_string(),
-        r"4 1 11 0 2026-03-01 00:10 |  | feed pump B \\x0a".to_string(),
-        "5 1 11 0 2026-03-01 00:10 | no remark".to_string(),
-        format!("6 1 11 0 2026-03-01 00:10 | {}", r"\x0a".repeat(200)),
-        "7 1 11 0 2026-03-01 00:10 | no remark".to_string(),
+        "no unit answer warn part stamp | remark".to_string(),
+        format!("1 1 0 0 0 2026-03-01 00:10 | {}", low.concat()),
+        format!("2 1 11 0 0 2026-03-01 00:10 | {}", hex(0x80..=0xFF)),
+        r"3 1 11 0 0 2026-03-01 00:10 | \\".to_string(),
+        r"4 1 11 0 0 2026-03-01 00:10 |  | feed pump B \\x0a".to_string(),
+        "5 1 11 0 0 2026-03-01 00:10 | no remark".to_string(),
+        format!("6 1 11 0 0 2026-03-01 00:10 | {}", r"\x0a".repeat(200)),
+        "7 1 11 0 0 2026-03-01 00:10 | no remark".to_string(),
         "total 1 0 6".to_string(),
     ];
     assert_eq!(log.lines().collect::<Vec<_>>(), expected);
@@ -167,7 +167,7 @@ fn remarks_of_the_texts() {
 #[test]
 fn remarks_of_refused_reports_and_rosters() {
     let remarks_of = |input: &[u8]| String::from_utf8(remarks(input)).unwrap();
-    let header = "no unit answer warn stamp | remark\n";
+    let header = "no unit answer warn part stamp | remark\n";
     assert_eq!(remarks_of(&[]), "roster 20\n");
     assert_eq!(remarks_of(&sample("bad-roster").unwrap()), "roster 20\n");
     assert_eq!(remarks_of(&roster_a()), format!("{header}total 0 0 0\n"));
@@ -176,7 +176,7 @@ fn remarks_of_refused_reports_and_rosters() {
     let late = with(derating(1), text).bytes();
     let cut = &late[..late.len() - 1];
     let input = [&roster_a(), &late[..], cut].concat();
-    let expected = format!("{header}1 1 4 0 - | late\n2 - 2 0 - | \ntotal 0 0 2\n");
+    let expected = format!("{header}1 1 4 0 0 - | late\n2 - 2 0 0 - | \ntotal 0 0 2\n");
     assert_eq!(remarks_of(&input), expected);
 }
 

@@ -76,7 +76,7 @@ impl Run {
         match self.out.as_slice() {
             [] => Ok(()),
             // The header may be out before the register is looked at.
-            b"no unit answer warn stamp\n" => Ok(()),
+            b"no unit answer warn part stamp\n" => Ok(()),
             _ => Err(format!(
                 "it printed {:?}",
                 self.out.escape_ascii().to_string()
