@@ -38,8 +38,11 @@ pub fn set_up(roster: &[u8], register: &mut [u8]) -> u32 {
     }
 }
 
-/// The answer to a report: its number and its warnings.
-pub fn answer(register: &mut [u8], report: &[u8]) -> (u32, u32) {
+/// Number, warnings and part.
+pub type Answer = (u32, u32, u32);
+
+/// The answer to a report.
+pub fn answer(register: &mut [u8], report: &[u8]) -> Answer {
     // SAFETY: as for set-up.
     let packed = unsafe {
         desk_answer(
@@ -49,7 +52,17 @@ pub fn answer(register: &mut [u8], report: &[u8]) -> (u32, u32) {
             report.len(),
         )
     };
-    (packed % 256, packed / 256)
+    (packed % 256, packed / 256 % 256, packed / 65_536)
+}
+
+/// The reference's answer to a report, in the same form.
+pub fn reference_answer(register: &mut [u8], report: &[u8]) -> Answer {
+    let answer = reference::answer(register, report);
+    (
+        answer.number.into(),
+        answer.warnings.into(),
+        answer.part.into(),
+    )
 }
 
 /// A remark as the desk hands it back.

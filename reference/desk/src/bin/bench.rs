@@ -1,5 +1,6 @@
 //! Times the proved desk beside the reference, in one process and on the same inputs.
 
+use desk_comparison::{reference_answer, Answer};
 use reference::codes::{Direction, Operation, RecordType, StartMark, UnitKind};
 use reference::compose::{EntryFields, ReportFields, SlotFields};
 use reference::fields::put_u16;
@@ -20,13 +21,12 @@ const POSITIVE_DERATINGS: u32 = 4;
 const NEGATIVE_DERATINGS: u32 = 3;
 const MUST_RUN_MRID: u8 = 8;
 
-/// Answers a report; the number and the warnings.
-type Desk = fn(&mut [u8], &[u8]) -> (u32, u32);
+/// Answers a report.
+type Desk = fn(&mut [u8], &[u8]) -> Answer;
 
-fn reference_answer(register: &mut [u8], report: &[u8]) -> (u32, u32) {
-    let answer = reference::answer(register, report);
-    (answer.number.into(), answer.warnings.into())
-}
+/// Accepted without warnings.
+const CLEAN: Answer = (0, 0, 0);
+const NOT_WHOLE: Answer = (2, 0, 0);
 
 const RATTLE: Desk = desk_comparison::answer;
 const RUST: Desk = reference_answer;
@@ -38,7 +38,7 @@ struct Load {
 }
 
 impl Load {
-    fn answers(&self, desk: Desk) -> Vec<(u32, u32)> {
+    fn answers(&self, desk: Desk) -> Vec<Answer> {
         let mut register = self.register.clone();
         let reports = self.reports.iter();
         reports.map(|report| desk(&mut register, report)).collect()
@@ -202,6 +202,26 @@ fn must_run(units: usize, parts: u32, first_level: u32) -> Load {
     }
 }
 
+/// A derating of a hundred parts, of which one starts a minute late, sent again and again.
+fn uncovered(late_part: u32) -> Load {
+    const REPORTS: usize = 20;
+    let length = QUARTER * MOST_PARTS;
+    let powers: Vec<(u32, i32)> = steps(START, length, MOST_PARTS, 1_000)
+        .into_iter()
+        .map(|(end, power)| (end, power as i32))
+        .collect();
+    let mut fields = ReportFields::creation(1, OWNER, RecordType::PositiveDerating)
+        .over(START, START + length)
+        .stepping(&powers)
+        .stamped(D + 10)
+        .named(1);
+    fields.parts[late_part as usize - 1].start += 1;
+    Load {
+        register: free_register(1),
+        reports: vec![fields.bytes(); REPORTS],
+    }
+}
+
 /// An empty report is refused with 2, right after question 1.
 fn question_1(register: Vec<u8>) -> Load {
     Load {
@@ -211,9 +231,9 @@ fn question_1(register: Vec<u8>) -> Load {
 }
 
 /// The rates of both sides; None if the answers differ or aren't those expected.
-fn checked_rates(name: &str, load: &Load, expected: Option<u32>) -> Option<[f64; 2]> {
+fn checked_rates(name: &str, load: &Load, expected: Option<Answer>) -> Option<[f64; 2]> {
     let answers = load.answers(RATTLE);
-    let right = expected.is_none_or(|number| answers.iter().all(|&given| given == (number, 0)));
+    let right = expected.is_none_or(|expected| answers.iter().all(|&given| given == expected));
     if !right || answers != load.answers(RUST) {
         println!("{name:<44} wrong answers");
         return None;
@@ -229,7 +249,7 @@ fn print_head(what: &str) {
 }
 
 /// Prints the rates of both sides; Rattle's.
-fn print_rates(name: &str, load: &Load, expected: Option<u32>) -> Option<f64> {
+fn print_rates(name: &str, load: &Load, expected: Option<Answer>) -> Option<f64> {
     let [rattle, rust] = checked_rates(name, load, expected)?;
     let ratio = rattle / rust;
     println!("{name:<44} {rattle:>12.0} {rust:>12.0} {ratio:>12.2}");
@@ -239,7 +259,7 @@ fn print_rates(name: &str, load: &Load, expected: Option<u32>) -> Option<f64> {
 /// Question 1 beside a byte sum of the same register.
 fn print_question_1(name: &str, register: Vec<u8>) -> Option<()> {
     let load = question_1(register);
-    let rate = print_rates(name, &load, Some(2))?;
+    let rate = print_rates(name, &load, Some(NOT_WHOLE))?;
     let sum = byte_sum_rate(&load.register);
     let bytes = load.register.len() as f64;
     println!(
@@ -298,12 +318,8 @@ fn print_growth_by_parts(row: &str, first_level: u32, all_parts: &[u32]) -> Opti
     let mut before: Option<[f64; 2]> = None;
     for &parts in all_parts {
         let name = format!("{row}, parts: {parts}");
-        let rates = checked_rates(&name, &must_run(1, parts, first_level), Some(0))?;
-        let [rattle, rust] = rates.map(|rate| 1e6 / rate);
-        println!(
-            "{name:<44} {rattle:>12.2} {rust:>12.2} {:>12.2}",
-            rust / rattle
-        );
+        let rates = checked_rates(&name, &must_run(1, parts, first_level), Some(CLEAN))?;
+        let [rattle, rust] = print_micros(&name, rates);
         if let Some([rattle_before, rust_before]) = before {
             let (rattle, rust) = (rattle / rattle_before, rust / rust_before);
             println!(
@@ -316,14 +332,33 @@ fn print_growth_by_parts(row: &str, first_level: u32, all_parts: &[u32]) -> Opti
     Some(())
 }
 
+/// Prints the µs a report of both sides, which it gives.
+fn print_micros(name: &str, rates: [f64; 2]) -> [f64; 2] {
+    let micros = rates.map(|rate| 1e6 / rate);
+    let [rattle, rust] = micros;
+    let ratio = rust / rattle;
+    println!("{name:<44} {rattle:>12.2} {rust:>12.2} {ratio:>12.2}");
+    micros
+}
+
+/// Deratings of a hundred parts, refused with 8 at the first, at a middle and at the last part.
+fn print_uncovered() -> Option<()> {
+    for part in [1, 57, MOST_PARTS] {
+        let name = format!("(g) 1 unit, 100 parts, refused at part {part}");
+        let rates = checked_rates(&name, &uncovered(part), Some((8, 0, part)))?;
+        print_micros(&name, rates);
+    }
+    Some(())
+}
+
 fn bench() -> Option<()> {
     print_head("reports per second");
     print_rates("(a) 2 units, ordinary stream", &stream(2), None)?;
-    print_rates("(b) 64 units, slots free, event", &event(), Some(0))?;
+    print_rates("(b) 64 units, slots free, event", &event(), Some(CLEAN))?;
     print_rates(
         "(c) 64 units, slots full, forced work",
         &must_run(MAX_UNITS, MOST_PARTS, FAR),
-        Some(0),
+        Some(CLEAN),
     )?;
     let (free, full) = (
         free_register(MAX_UNITS),
@@ -334,7 +369,8 @@ fn bench() -> Option<()> {
     print_growth()?;
     print_head("µs a report");
     print_growth_by_parts("(e) 1 unit, forced work", FAR, &[1, 10, MOST_PARTS])?;
-    print_growth_by_parts("(f) the same near a limit", NEAR, &[10, MOST_PARTS])
+    print_growth_by_parts("(f) the same near a limit", NEAR, &[10, MOST_PARTS])?;
+    print_uncovered()
 }
 
 fn main() -> ExitCode {

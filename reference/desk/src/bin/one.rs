@@ -1,5 +1,6 @@
 //! Times the proved desk beside the reference, in one process and on the same inputs.
 
+use desk_comparison::{reference_answer, Answer};
 use reference::codes::{Direction, Operation, RecordType, StartMark, UnitKind};
 use reference::compose::{EntryFields, ReportFields, SlotFields};
 use reference::fields::put_u16;
@@ -19,13 +20,8 @@ const POSITIVE_DERATINGS: u32 = 4;
 const NEGATIVE_DERATINGS: u32 = 3;
 const MUST_RUN_MRID: u8 = 8;
 
-/// Answers a report; the number and the warnings.
-type Desk = fn(&mut [u8], &[u8]) -> (u32, u32);
-
-fn reference_answer(register: &mut [u8], report: &[u8]) -> (u32, u32) {
-    let answer = reference::answer(register, report);
-    (answer.number.into(), answer.warnings.into())
-}
+/// Answers a report.
+type Desk = fn(&mut [u8], &[u8]) -> Answer;
 
 const RATTLE: Desk = desk_comparison::answer;
 const RUST: Desk = reference_answer;
@@ -37,7 +33,7 @@ struct Load {
 }
 
 impl Load {
-    fn answers(&self, desk: Desk) -> Vec<(u32, u32)> {
+    fn answers(&self, desk: Desk) -> Vec<Answer> {
         let mut register = self.register.clone();
         let reports = self.reports.iter();
         reports.map(|report| desk(&mut register, report)).collect()
@@ -205,7 +201,7 @@ fn question_1(register: Vec<u8>) -> Load {
 /// The rates of both sides; None if the answers differ or aren't those expected.
 fn print_rates(name: &str, load: &Load, expected: Option<u32>) -> Option<f64> {
     let answers = load.answers(RATTLE);
-    let right = expected.is_none_or(|number| answers == [(number, 0)]);
+    let right = expected.is_none_or(|number| answers == [(number, 0, 0)]);
     if !right || answers != load.answers(RUST) {
         println!("{name:<44} wrong answers");
         return None;
@@ -291,12 +287,24 @@ fn bench() -> Option<()> {
 
 fn main() -> ExitCode {
     if let Some(which) = std::env::args().nth(1) {
-        let load = match which.as_str() { "a" => stream(2), "b" => event(), "c" => must_run(), "d" => question_1(free_register()), _ => question_1(full_register()) };
+        let load = match which.as_str() {
+            "a" => stream(2),
+            "b" => event(),
+            "c" => must_run(),
+            "d" => question_1(free_register()),
+            _ => question_1(full_register()),
+        };
         let mut register = load.register.clone();
-        let t = Instant::now(); let mut n = 0u64;
+        let t = Instant::now();
+        let mut n = 0u64;
         while t.elapsed() < Duration::from_secs(2) {
-            for _ in 0..20 { restore(&mut register, &load.register, load.reports.len());
-            for report in &load.reports { black_box(RATTLE(&mut register, black_box(report))); n += 1; } }
+            for _ in 0..20 {
+                restore(&mut register, &load.register, load.reports.len());
+                for report in &load.reports {
+                    black_box(RATTLE(&mut register, black_box(report)));
+                    n += 1;
+                }
+            }
         }
         println!("{} {:.3} us", which, 2e6 / n as f64);
         return ExitCode::SUCCESS;

@@ -1,4 +1,5 @@
-//! How often each kind of ending, each answer and each kind of remark occurred.
+//! How often each kind of ending, each answer, each place of a named part and each kind of remark
+//! occurred.
 
 use crate::ending::{ending, ENDINGS};
 use reference::remark::STANDING;
@@ -20,7 +21,25 @@ fn answers() -> impl Iterator<Item = String> {
     let warnings = [1, 2, 4, 8].map(|warning| format!("warning {warning}"));
     numbers
         .chain(warnings)
+        .chain(PARTS.map(str::to_string))
         .chain([LATE_STAMP.to_string(), CLEAN_LOG.to_string()])
+}
+
+/// The parts that a line with answer 8 names.
+const PARTS: [&str; 4] = [
+    "answer 8, part 0",
+    "answer 8, part 1",
+    "answer 8, part 2 to 99",
+    "answer 8, part 100",
+];
+
+fn named_part(part: &str) -> &'static str {
+    match part {
+        "0" => PARTS[0],
+        "1" => PARTS[1],
+        "100" => PARTS[3],
+        _ => PARTS[2],
+    }
 }
 
 const LATE_STAMP: &str = "stamp out of range";
@@ -28,7 +47,7 @@ const CLEAN_LOG: &str = "log without refusal";
 
 /// The kinds of remark, and of which a line's is.
 fn remark_kinds(line: &str, remark: &str) -> [(&'static str, bool); 8] {
-    let refused = line.ends_with(" - 2 0 -");
+    let refused = line.ends_with(" - 2 0 0 -");
     let standing = remark.as_bytes() == STANDING;
     let length = text_length(remark);
     [
@@ -65,7 +84,7 @@ impl Tally {
         let log = String::from_utf8_lossy(log);
         let kind = ending(input);
         let refused_roster = log.starts_with("roster");
-        let ended_early = log.contains(" - 2 0 -\n");
+        let ended_early = log.contains(" - 2 0 0 -\n");
         let told = match kind.split_once(':') {
             Some(("roster 20", _)) => refused_roster,
             Some(("2", _)) => ended_early,
@@ -81,8 +100,14 @@ impl Tally {
         let words: Vec<&str> = line.split(' ').collect();
         match words.as_slice() {
             ["total", _, _, "0"] => self.occurred(CLEAN_LOG.to_string()),
-            [_, unit, number, warnings, stamp @ ..] if !stamp.is_empty() && *unit != "unit" => {
+            [_, unit, number, warnings, part, stamp @ ..]
+                if !stamp.is_empty() && *unit != "unit" =>
+            {
                 self.occurred(format!("answer {number}"));
+                match *number {
+                    "8" => self.occurred(named_part(part).to_string()),
+                    _ => assert_eq!(*part, "0", "{line}"),
+                }
                 let sum: u32 = warnings.parse().unwrap_or_default();
                 for warning in [1, 2, 4, 8].into_iter().filter(|bit| sum & bit != 0) {
                     self.occurred(format!("warning {warning}"));

@@ -1,11 +1,9 @@
 //! One call of both sides, and a difference in readable lines.
 
+use desk_comparison::{reference_answer, Answer};
 use reference::register::{BLOCK_SIZE, HEAD_SIZE, SLOT_SIZE};
 use reference::show::show;
 use std::fmt::Write;
-
-/// Number and warnings.
-pub type Answer = (u32, u32);
 
 /// A call that the two sides answered differently.
 pub struct Difference {
@@ -20,23 +18,21 @@ struct Side {
 
 /// A report answered by both sides: the answer and the register afterwards.
 pub fn answer(before: &[u8], report: &[u8]) -> Result<(Answer, Vec<u8>), Box<Difference>> {
-    let reference = side(before, |register| {
-        let answer = reference::answer(register, report);
-        (answer.number.into(), answer.warnings.into())
-    });
+    let reference = side(before, |register| reference_answer(register, report));
     let desk = side(before, |register| desk_comparison::answer(register, report));
     agreed("answer", report, before, reference, desk)
 }
 
 /// A roster set up by both sides: the number and the register afterwards.
-pub fn set_up(roster: &[u8], before: &[u8]) -> Result<(Answer, Vec<u8>), Box<Difference>> {
+pub fn set_up(roster: &[u8], before: &[u8]) -> Result<(u32, Vec<u8>), Box<Difference>> {
     let reference = side(before, |register| {
-        (reference::set_up(roster, register).into(), 0)
+        (reference::set_up(roster, register).into(), 0, 0)
     });
     let desk = side(before, |register| {
-        (desk_comparison::set_up(roster, register), 0)
+        (desk_comparison::set_up(roster, register), 0, 0)
     });
-    agreed("set-up", roster, before, reference, desk)
+    let ((number, ..), after) = agreed("set-up", roster, before, reference, desk)?;
+    Ok((number, after))
 }
 
 fn side(before: &[u8], call: impl Fn(&mut [u8]) -> Answer) -> Side {
@@ -57,8 +53,8 @@ fn agreed(
     }
     let mut lines = format!("{call} differs\n");
     for (name, side) in [("reference", &reference), ("desk", &desk)] {
-        let (number, warnings) = side.answer;
-        let _ = writeln!(lines, "{name}: {number}, warnings {warnings}");
+        let (number, warnings, part) = side.answer;
+        let _ = writeln!(lines, "{name}: {number}, warnings {warnings}, part {part}");
     }
     put_places(&mut lines, &reference.after, &desk.after);
     put_bytes(&mut lines, "input", input);

@@ -1,4 +1,4 @@
-//! Compares the proved desk with the reference: numbers, warnings and every byte.
+//! Compares the proved desk with the reference: numbers, warnings, parts and every byte.
 
 mod case;
 mod damaged;

@@ -84,7 +84,7 @@ fn worked_examples(_: &mut Random, tally: &mut Tally) -> Outcome {
         let mut register = fresh(&roster_a(), tally)?;
         for report in &example.reports {
             let (given, after) = answer(&register, report)?;
-            tally.count(given);
+            tally.count(given, report);
             register = after;
             calls += 1;
         }
@@ -104,11 +104,11 @@ fn stream(
         let report = source.report();
         if random.percent(BROKEN) {
             let broken = broken_report(random, &report);
-            tally.count(answer(&register, &broken)?.0);
+            tally.count(answer(&register, &broken)?.0, &broken);
             calls += 1;
         }
         let (given, after) = answer(&register, &report)?;
-        tally.count(given);
+        tally.count(given, &report);
         register = after;
         calls += 1;
     }
@@ -146,7 +146,7 @@ fn every_byte(_: &mut Random, tally: &mut Tally) -> Outcome {
         let byte = register[at];
         for changed in [byte.wrapping_add(1), byte ^ 0x80] {
             register[at] = changed;
-            tally.count(answer(&register, &[])?.0);
+            tally.count(answer(&register, &[])?.0, &[]);
         }
         register[at] = byte;
     }
@@ -159,7 +159,7 @@ fn damaged_registers(random: &mut Random, tally: &mut Tally) -> Outcome {
     const DAMAGES: u64 = 50;
     let mut calls = 0;
     for variant in variants() {
-        tally.count(answer(&variant.register(), &[])?.0);
+        tally.count(answer(&variant.register(), &[])?.0, &[]);
         calls += 1;
     }
     for index in 0..REGISTERS {
@@ -168,7 +168,7 @@ fn damaged_registers(random: &mut Random, tally: &mut Tally) -> Outcome {
         let report = source.report();
         for _ in 0..DAMAGES {
             let register = damaged::register(random, &whole);
-            tally.count(answer(&register, &report)?.0);
+            tally.count(answer(&register, &report)?.0, &report);
         }
         calls += DAMAGES;
     }
@@ -184,7 +184,7 @@ fn damaged_reports(random: &mut Random, tally: &mut Tally) -> Outcome {
         for _ in 0..REPORTS {
             let register = source.register().to_vec();
             let report = damaged::report(random, &source.report());
-            tally.count(answer(&register, &report)?.0);
+            tally.count(answer(&register, &report)?.0, &report);
         }
         calls += REPORTS;
     }

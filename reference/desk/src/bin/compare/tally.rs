@@ -1,6 +1,8 @@
-//! How often each answer and each warning occurred.
+//! How often each answer, each warning and each way to break cover occurred.
 
-use crate::case::Answer;
+use desk_comparison::Answer;
+use reference::cover_faults::{cover_fault, KINDS};
+use reference::report::question_2_report_whole;
 use std::collections::BTreeMap;
 
 const WARNINGS: [u32; 4] = [1, 2, 4, 8];
@@ -10,6 +12,7 @@ const WARNINGS: [u32; 4] = [1, 2, 4, 8];
 pub struct Tally {
     answers: [u64; 20],
     sums: [u64; 16],
+    cover_faults: [u64; KINDS.len()],
     accepted_set_ups: u64,
     refused_rosters: u64,
     refused_buffers: u64,
@@ -18,15 +21,26 @@ pub struct Tally {
 
 impl Tally {
     /// Counts the answer to a report.
-    pub fn count(&mut self, (number, warnings): Answer) {
+    pub fn count(&mut self, (number, warnings, _): Answer, report: &[u8]) {
         self.answers[number as usize] += 1;
-        if number == 0 {
-            self.sums[warnings as usize] += 1;
+        match number {
+            0 => self.sums[warnings as usize] += 1,
+            8 => self.count_cover_fault(report),
+            _ => {}
+        }
+    }
+
+    /// What is wrong with the parts is read from the report, not from the answer.
+    fn count_cover_fault(&mut self, report: &[u8]) {
+        let fault = question_2_report_whole(report).and_then(|whole| cover_fault(&whole));
+        let found = fault.and_then(|fault| fault.kind);
+        for (kind, count) in KINDS.iter().zip(&mut self.cover_faults) {
+            *count += u64::from(found == Some(*kind));
         }
     }
 
     /// Counts a set-up.
-    pub fn count_set_up(&mut self, (number, _): Answer) {
+    pub fn count_set_up(&mut self, number: u32) {
         match number {
             0 => self.accepted_set_ups += 1,
             20 => self.refused_rosters += 1,
@@ -53,6 +67,8 @@ impl Tally {
         let answers = answers.map(|(number, &count)| (format!("answer {number}"), count));
         let warnings =
             WARNINGS.map(|warning| (format!("warning {warning}"), self.warning(warning)));
+        let cover_faults = KINDS.iter().zip(self.cover_faults);
+        let cover_faults = cover_faults.map(|(kind, count)| (kind.to_string(), count));
         let set_ups = [
             ("set-up 0", self.accepted_set_ups),
             ("set-up 20", self.refused_rosters),
@@ -61,21 +77,21 @@ impl Tally {
         let set_ups = set_ups.map(|(name, count)| (name.to_string(), count));
         let remarks = self.remarks.iter();
         let remarks = remarks.map(|(kind, &count)| (format!("remark: {kind}"), count));
-        let rows = answers.chain(warnings).chain(set_ups);
+        let rows = answers.chain(warnings).chain(cover_faults).chain(set_ups);
         rows.chain(remarks).collect()
     }
 
     /// Prints the table.
     pub fn print(&self) {
         for (name, count) in self.rows() {
-            println!("  {name:<40} {count:8}");
+            println!("  {name:<44} {count:8}");
         }
         for (sum, count) in self.sums.iter().enumerate() {
             if *count > 0 {
-                println!("  {:<40} {count:8}", format!("sum {sum}"));
+                println!("  {:<44} {count:8}", format!("sum {sum}"));
             }
         }
-        println!("  {:<40} {:8}", "answers", self.answers.iter().sum::<u64>());
+        println!("  {:<44} {:8}", "answers", self.answers.iter().sum::<u64>());
     }
 
     /// What never occurred.
