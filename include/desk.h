@@ -47,7 +47,7 @@ enum {
     DESK_REFUSED_KIND = 5,                /* the unit's kind does not carry it */
     DESK_REFUSED_TIMES = 6,               /* start, end, stamp and start mark do not go together */
     DESK_REFUSED_QUARTER_HOUR = 7,        /* end, planned start or a part's end off the quarter hour */
-    DESK_REFUSED_PARTS = 8,               /* the parts do not cover the period, or there may be none */
+    DESK_REFUSED_PARTS = 8,               /* the parts do not cover the period, or there may be none: desk_part */
     DESK_REFUSED_POWER = 9,               /* a part's power is out of range */
     DESK_REFUSED_STAMP = 10,              /* the stamp is before the unit's last one */
     DESK_REFUSED_IDENTIFIER_IN_USE = 11,  /* create: a live record has this identifier */
@@ -71,9 +71,15 @@ enum {
     DESK_WARNING_LEFT = 8       /* the reported stop made another begun stop or off-grid record leave */
 };
 
-/* An answer taken apart. Bits above these two bytes are for later requests. */
+/*
+ * An answer taken apart. Beside number 8 the part is the number, from 1, of the first part that breaks cover: one that does not
+ * start where the one before it ended (the first part: at the period's start), does not start before its own end, or ends past the
+ * period's end. A list that stops short names its last part; a missing list, or a list where none may be, names 0. Beside every
+ * other number the part is 0.
+ */
 static inline uint32_t desk_number(uint32_t answer) { return answer & 255u; }
 static inline uint32_t desk_warnings(uint32_t answer) { return (answer >> 8) & 255u; }
+static inline uint32_t desk_part(uint32_t answer) { return answer >> 16; }
 
 /* What desk_remark returns, taken apart: 1 where the remark is the standing text, else 0. desk_number gives its 0 or 2. */
 static inline uint32_t desk_remark_is_standing(uint32_t answer) { return (answer >> 8) & 1u; }
@@ -88,7 +94,8 @@ uint32_t desk_set_up(const uint8_t *roster, size_t roster_length, uint8_t *reg, 
 
 /*
  * Judges a report and, where it is accepted, moves its unit's block on. No other block changes.
- * Returns number + 256 * warnings: the number is 0 to 19, the warnings 0 to 15; see desk_number and desk_warnings.
+ * Returns number + 256 * warnings + 65,536 * part: the number is 0 to 19, the warnings 0 to 15, the part 0 to 100; see
+ * desk_number, desk_warnings and desk_part.
  * Question 1 asks the whole register each time: one that is not whole is answered with 1 and never written to.
  */
 uint32_t desk_answer(uint8_t *reg, size_t reg_length, const uint8_t *report, size_t report_length);

@@ -56,7 +56,7 @@ help_lists_every_word() {
 
 samples() {
   local name
-  for name in roster-a evening; do
+  for name in roster-a evening cover; do
     logged "samples/$name.log" ./desk log "samples/$name.stream"
   done
   logged samples/evening.log ./desk log - < samples/evening.stream

@@ -90,7 +90,7 @@ answers() {
   fresh f roster-e
   head -c 330 "$room/reports-e" > "$room/some"
   "$desk" answer "$room/f" "$room/some" > "$room/out"
-  printf 'no unit answer warn stamp\ntotal 0 0 0\n' > "$room/no-lines"
+  printf 'no unit answer warn part stamp\ntotal 0 0 0\n' > "$room/no-lines"
   told 'no reports: another log' cmp <("$desk" answer "$room/f" "$room/nothing") "$room/no-lines"
   told 'no line 1 in a second run' grep -q '^1 1 ' <("$desk" answer "$room/f" "$room/reports-e")
   told 'a name with a space, from another folder' mv "$room/f" "$room/the register"
@@ -115,7 +115,7 @@ bad_streams() {
   head -c 70 "$room/reports-a" > "$room/cut"
   "$desk" answer "$room/a" "$room/cut" > "$room/out"
   told 'a stream cut short: a status' [ $? -eq 0 ]
-  told "a stream cut short: $(cat "$room/out")" [ "$(tail -n 2 "$room/out")" = $'2 - 2 0 -\ntotal 1 0 1' ]
+  told "a stream cut short: $(cat "$room/out")" [ "$(tail -n 2 "$room/out")" = $'2 - 2 0 0 -\ntotal 1 0 1' ]
 }
 
 # a new register is larger than a file may be

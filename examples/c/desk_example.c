@@ -1,6 +1,6 @@
 /*
- * Paper 01's roster A and the five reports of its log, judged through the C interface; then the remark, an empty report and a
- * refusal. C99, and C++ as well. Build the library with `rt staticlib desk`; then, from the top of the repository:
+ * Paper 01's roster A and the five reports of its log, judged through the C interface; then parts that break cover, an empty report
+ * and the remark. C99, and C++ as well. Build the library with `rt staticlib desk`; then, from the top of the repository:
  *
  *     gcc -std=c99 -Iinclude examples/c/desk_example.c target/staticlib/libdesk.a -o example && ./example
  *
@@ -89,14 +89,14 @@ static Report head_of(uint32_t unit, uint8_t type, uint8_t mark, uint8_t qualifi
     return r;
 }
 
-/* One part, of the whole period. */
-static void add_part(Report *r, uint32_t power)
+static void add_part(Report *r, uint32_t start, uint32_t end, uint32_t power)
 {
     uint8_t *part = r->bytes + r->length;
     memcpy(part, "PK", 2); /* 50 4B */
-    memcpy(part + 4, r->bytes + 36, 8);
+    put32(part + 4, D + start);
+    put32(part + 8, D + end);
     put32(part + 12, power);
-    put16(r->bytes + 14, 1); /* k */
+    r->bytes[14]++; /* k */
     r->length += 16;
 }
 
@@ -112,7 +112,19 @@ static void add_text(Report *r, const char *text)
 static Report levelled(uint32_t unit, uint8_t type, int line, uint32_t stamp, uint32_t power)
 {
     Report r = head_of(unit, type, PLANNED, 0, line, stamp, 60, 120);
-    add_part(&r, power);
+    add_part(&r, 60, 120, power);
+    add_text(&r, "");
+    return r;
+}
+
+/* A derating in four quarter hours, one of which starts a minute late; none of them does if that one is 0. */
+static Report stepping(int line, uint32_t stamp, uint32_t late)
+{
+    Report r = head_of(1, POSITIVE_DERATING, PLANNED, 0, line, stamp, 180, 240);
+    uint32_t i;
+    for (i = 1; i <= 4; i++) {
+        add_part(&r, 165 + 15 * i + (i == late ? 1 : 0), 180 + 15 * i, 1000 * i);
+    }
     add_text(&r, "");
     return r;
 }
@@ -130,13 +142,15 @@ static const char *words_of(uint32_t number)
     case DESK_ACCEPTED: return "accepted";
     case DESK_REFUSED_REPORT: return "refused, the report is not whole";
     case DESK_REFUSED_UNIT_OR_OWNER: return "refused, unit and owner do not go together";
+    case DESK_REFUSED_PARTS: return "refused, the parts do not cover the period";
     case DESK_REFUSED_LEVELS: return "refused, forced work and deratings do not fit";
     default: return "refused";
     }
 }
 
 /* A report is answered on the register; a refusal has to leave every byte. */
-static void answer(uint8_t *reg, const char *name, const uint8_t *report, size_t length, uint32_t number, uint32_t warnings)
+static void answer(uint8_t *reg, const char *name, const uint8_t *report, size_t length, uint32_t number, uint32_t warnings,
+                   uint32_t part)
 {
     static uint8_t before[UNITS * DESK_BLOCK_SIZE];
     uint32_t got;
@@ -146,12 +160,16 @@ static void answer(uint8_t *reg, const char *name, const uint8_t *report, size_t
     if (desk_warnings(got) & DESK_WARNING_STOP) {
         printf(", warning 1: a derating or forced work overlaps a stop");
     }
+    if (desk_number(got) == DESK_REFUSED_PARTS) {
+        printf(", part %u is wrong", (unsigned)desk_part(got));
+    }
     if (desk_number(got) != DESK_ACCEPTED && memcmp(before, reg, sizeof before) == 0) {
         printf("; every byte is as it was");
     }
     printf("\n");
     expect("number", desk_number(got), number);
     expect("warnings", desk_warnings(got), warnings);
+    expect("part", desk_part(got), part);
     expect("bytes are as they were", memcmp(before, reg, sizeof before) == 0, number != DESK_ACCEPTED);
 }
 
@@ -182,7 +200,7 @@ int main(void)
     static uint8_t reg[UNITS * DESK_BLOCK_SIZE];
     uint8_t roster[UNITS * DESK_ENTRY_SIZE];
     const char *standing = "no remark";
-    Report reports[5], told;
+    Report reports[5], steps, told;
     int i;
 
     put_entry(roster, 7, W1, STATE_P, 200000, 80000);
@@ -203,14 +221,18 @@ int main(void)
         for (i = 0; i < 5; i++) {
             char name[] = "report 0";
             name[7] = (char)('1' + i);
-            answer(reg, name, reports[i].bytes, reports[i].length, numbers[i], warnings[i]);
+            answer(reg, name, reports[i].bytes, reports[i].length, numbers[i], warnings[i], 0);
         }
     }
-    answer(reg, "an empty report, NULL and 0", NULL, 0, DESK_REFUSED_REPORT, 0);
+    steps = stepping(6, 27, 3);
+    answer(reg, "four parts, the third a minute late", steps.bytes, steps.length, DESK_REFUSED_PARTS, 0, 3);
+    steps = stepping(6, 27, 0);
+    answer(reg, "the same put right", steps.bytes, steps.length, 0, 0, 0);
+    answer(reg, "an empty report, NULL and 0", NULL, 0, DESK_REFUSED_REPORT, 0, 0);
     expect("an empty register, NULL and 0", desk_answer(NULL, 0, reports[0].bytes, reports[0].length), DESK_REFUSED_REGISTER);
 
-    told = head_of(1, POSITIVE_DERATING, PLANNED, 0, 6, 30, 120, 180);
-    add_part(&told, 20000);
+    told = head_of(1, POSITIVE_DERATING, PLANNED, 0, 7, 30, 120, 180);
+    add_part(&told, 120, 180, 20000);
     add_text(&told, "feed pump B is out");
     remark("remark of a report with a text", &told, standing, "feed pump B is out");
     remark("remark of report 1, which has none", &reports[0], standing, standing);
