@@ -1,4 +1,5 @@
-//! The sample `cover`: a derating of ninety parts, put right after an 8, and other lists that break cover.
+//! The sample `cover`: a derating of ninety parts, put right after an 8, and other lists that break
+//! cover.
 
 use crate::codes::{Operation, RecordType, UnitKind, UnitState};
 use crate::compose::{EntryFields, ReportFields};

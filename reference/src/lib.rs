@@ -1,6 +1,7 @@
-//! Paper 01, the unit register, written from the paper alone: an independent reference.
+//! Paper 01, the unit register, with request A1 of paper 02, written from the papers alone: an
+//! independent reference.
 //!
-//! The modules follow the sections of the paper. Identifiers are the field's terms; where the
+//! The modules follow the sections of paper 01. Identifiers are the field's terms; where the
 //! paper has a word of its own, the definition names it.
 
 #![deny(unsafe_code)]

@@ -39,7 +39,7 @@ fn part_count(random: &mut Random) -> usize {
     }
 }
 
-/// Parts one after another that end on quarter hours, at the end of time in none.
+/// Parts one after another that end on quarter hours; beyond the end of time they are empty.
 fn quarter_hours(start: u32, count: usize) -> Vec<PartFields> {
     let ends = (quarter_after(start)..).step_by(QUARTER as usize);
     one_after_another(start, ends.take(count).map(|end| end.min(LAST_QUARTER)))

@@ -26,7 +26,12 @@ fn stand_in(name: &str) -> PathBuf {
 
 #[test]
 fn wrong_programs_are_told_and_the_stream_is_kept() {
-    for name in ["no_totals.sh", "invented_totals.sh", "fails_at_the_end.sh"] {
+    for name in [
+        "no_totals.sh",
+        "invented_totals.sh",
+        "fails_at_the_end.sh",
+        "part_everywhere.sh",
+    ] {
         let folder = folder(name);
         let output = compare(&stand_in(name), &folder);
         let printed = String::from_utf8(output.stdout).unwrap();

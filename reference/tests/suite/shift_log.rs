@@ -138,6 +138,40 @@ total 1 1 1
 }
 
 #[test]
+fn the_part_that_was_wrong() {
+    let quarters = |count: u32| {
+        let steps: Vec<(u32, i32)> = (1..=count).map(|part| (D + 60 + 15 * part, 1)).collect();
+        derating(1)
+            .over(D + 60, D + 60 + 15 * count)
+            .stepping(&steps)
+    };
+    let late =
+        |count, part: usize| with(quarters(count), |fields| fields.parts[part - 1].start += 1);
+    let input = [
+        late(90, 57).bytes(),
+        quarters(90).bytes(),
+        late(100, 100).bytes(),
+        late(100, 1).bytes(),
+        with(quarters(90), |fields| fields.parts.clear()).bytes(),
+        with(late(90, 57), |fields| fields.parts[3].end += 1).bytes(),
+    ]
+    .concat();
+    let expected = "\
+1 1 8 0 57 2026-03-01 00:10
+2 1 0 0 0 2026-03-01 00:10
+3 1 8 0 100 2026-03-01 00:10
+4 1 8 0 1 2026-03-01 00:10
+5 1 8 0 0 2026-03-01 00:10
+6 1 7 0 0 2026-03-01 00:10
+total 1 0 5
+";
+    assert_eq!(lines(&input), expected);
+    let with_remarks = String::from_utf8(remarks(&[roster_a(), input].concat())).unwrap();
+    let first = "1 1 8 0 57 2026-03-01 00:10 | no remark";
+    assert_eq!(with_remarks.lines().nth(1), Some(first));
+}
+
+#[test]
 fn remarks_of_the_texts() {
     let log = String::from_utf8(remarks(&sample("texts").unwrap())).unwrap();
     let printed: String = (0x20..=0x7E).map(char::from).collect();

@@ -2,6 +2,7 @@
 
 use reference::random::Random;
 use reference::register::{question_1_register_whole, BLOCK_SIZE};
+use reference::report::question_2_report_whole;
 use reference::show::show;
 use reference::source::{damaged_register, whole_register, Source};
 use reference::{answer, date, remark, set_up, shift_log};
@@ -31,6 +32,8 @@ fn check_answer(register: &mut [u8], report: &[u8]) {
     assert_eq!(given.number == 1, !whole);
     assert!(given.number <= 19);
     assert!(given.number == 0 || (register == before && given.warnings == 0));
+    let parts = question_2_report_whole(report).map_or(0, |whole| whole.parts().count());
+    assert!(given.part == 0 || (given.number == 8 && usize::from(given.part) <= parts));
     assert!(!whole || question_1_register_whole(register));
     let (remarked, _) = remark(report, b"standing");
     assert!(!whole || (remarked == 2) == (given.number == 2));
