@@ -9,14 +9,14 @@ use lib.ListN.{length, take, drop, length-drop}
 use lib.Seq.{length-take-le}
 use borrow.Author.Tests.{eqb-true, eq-eqb, ne-eqb, not-true, not-false}
 use Rattle.fields.specs.Lists.{pick, and-each, every, part, series}
-use Rattle.fields.proofs.Bools.{every-true, range-true}
+use Rattle.fields.proofs.Bools.{passed-over, every-true, range-true}
 use Rattle.fields.proofs.Slices.{part-lent, lent-back}
 use Rattle.report.specs.declared.Head.{Head}
-use Rattle.report.specs.Report.{mostParts, headOf, partCount, whole}
+use Rattle.report.specs.Report.{mostParts, headOf, partCount, partsOf, whole}
 use Rattle.rules.specs.declared.Answer.{Answer}
 use Rattle.rules.specs.After.{slotWritten, cleared, blockAfter, someSlot, warnings}
 use Rattle.rules.specs.Questions.{changesState, leaves, stays}
-use Rattle.rules.specs.Judge.{Verdict, refusal, refusalNumber, judge}
+use Rattle.rules.specs.Judge.{Verdict, refusal, partBeside, refusalNumber, judge}
 use Rattle.rules.specs.declared.UnitHead.{UnitHead}
 use Rattle.rules.specs.Block.{slotCount, blockSize, unitHead}
 use Rattle.rules.specs.Whole.{registerWhole}
@@ -40,21 +40,28 @@ module _ (b s : List ℕ) {d : Decision} (decided : d ≡ decisionOf b s) where
     by-case : (n : ℕ) (t : Bool) → eqb n 0 ≡ t
         → pick t (record {
           number = 0;
+          part = 0;
           cleared = series
               (cleared b s) 0 slotCount;
           written = slotWritten b s;
           changes = changesState b s;
           left = someSlot (leaves b s);
         })
-        (refusedDecision n) .number ≡ n
+        (refusedDecision n (partBeside n (headOf s) (partsOf s))) .number ≡ n
     by-case n true e = sym (eqb-true n 0 e)
     by-case n false e = refl
 
-  pub refuses : {a : Answer} → (d .number ≡ 0 → ⊥) → a ≡ refusal (d .number) → Is (judge b s) a b
-  unfolding judge pick
-  refuses ne e =
+  refused-decision : eqb (refusalNumber b s) 0 ≡ false
+      → d ≡ refusedDecision (refusalNumber b s) (partBeside (refusalNumber b s) (headOf s) (partsOf s))
+  unfolding decisionOf
+  refused-decision e = decided ∙ passed-over _ _ refl e
+
+  pub refuses : (d .number ≡ 0 → ⊥) → Is (judge b s) (record { number = d .number; warnings = 0; part = d .part }) b
+  unfolding judge
+  refuses ne =
       let no-zero : eqb (refusalNumber b s) 0 ≡ false = ap (λ (k : ℕ). eqb k 0) (sym number-is) ∙ ne-eqb (d .number) 0 ne in
-      (e ∙ rw (no-zero, number-is), rw no-zero)
+      let named = ap (λ (d : Decision). d .part) (refused-decision no-zero) in
+      (rw (passed-over _ _ refl no-zero, number-is, named), rw (passed-over _ _ refl no-zero))
 
   module _ (long : length b ≡ blockSize) (free : FreeSlots b) (few : partCount s ≤ mostParts) (zero-now : d .number ≡ 0) where
     accepted : eqb (refusalNumber b s) 0 ≡ true
@@ -62,6 +69,7 @@ module _ (b s : List ℕ) {d : Decision} (decided : d ≡ decisionOf b s) where
 
     outcome : d ≡ record {
       number = 0;
+      part = 0;
       cleared = series (cleared b s) 0 slotCount;
       written = slotWritten b s;
       changes = changesState b s;
@@ -72,7 +80,7 @@ module _ (b s : List ℕ) {d : Decision} (decided : d ≡ decisionOf b s) where
 
     pub accepts : {left : List ℕ} {h : Head} {w : ℕ}
         → left ≡ planApplied b s (record { cleared = d .cleared; written = d .written; changes = d .changes }) → h ≡ headOf s
-        → w ≡ warningsOn left h (d .left) → Is (judge b s) (record { number = 0; warnings = w }) left
+        → w ≡ warningsOn left h (d .left) → Is (judge b s) (record { number = 0; warnings = w; part = 0 }) left
     unfolding judge pick
     accepts {left} {h} {w} p head q =
         let same : left ≡ blockAfter b s =

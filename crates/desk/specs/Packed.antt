@@ -4,9 +4,9 @@ use Rattle.fields.specs.Lists.{pick}
 use Rattle.report.specs.declared.RemarkPlace.{RemarkPlace}
 use Rattle.rules.specs.declared.Answer.{Answer}
 
--- the number in the low byte, the warnings above it
+-- the number in the low byte, the warnings above it, the part above both
 abbrev pub packed : Answer → ℕ
-packed a = a .number + 256 * a .warnings
+packed a = a .number + 256 * a .warnings + 65536 * a .part
 
 -- the number in the low byte, 1 above it where the remark is the standing text
 abbrev pub packedRemark : RemarkPlace → ℕ

@@ -19,6 +19,7 @@ fn refusal(number: u8) -> Answer
     Answer {
         number,
         warnings: 0,
+        part: 0,
     }
 }
 
@@ -31,7 +32,11 @@ fn judge_block(b: &mut [u8], report: &[u8]) -> Answer
 {
     let decision = judge::decide(b, report);
     if decision.number != 0 {
-        return refusal(decision.number);
+        return Answer {
+            number: decision.number,
+            warnings: 0,
+            part: decision.part,
+        };
     }
     let cleared = decision.cleared;
     let plan = Plan {
@@ -44,6 +49,7 @@ fn judge_block(b: &mut [u8], report: &[u8]) -> Answer
     Answer {
         number: 0,
         warnings,
+        part: 0,
     }
 }
 
@@ -90,14 +96,14 @@ pub extern "C" fn desk_set_up(roster: &[u8], register: &mut [u8]) -> u32
     setup::set_up(roster, register) as u32
 }
 
-// The C interface: the number and 256 times the warnings.
+// The C interface: the number, 256 times the warnings and 65,536 times the part.
 #[no_mangle]
 pub extern "C" fn desk_answer(register: &mut [u8], report: &[u8]) -> u32
     ensures { λ r. ⌜ r ≡ packed (answerTo (now (register .entry)) (now (report .entry)) .answer) ⌝ }
     ensures { λ _. ⌜ now (register .exit) ≡ answerTo (now (register .entry)) (now (report .entry)) .after ⌝ }
 {
     let a = answer_report(register, report);
-    a.number as u32 + 256 * (a.warnings as u32)
+    a.number as u32 + 256 * (a.warnings as u32) + 65536 * (a.part as u32)
 }
 
 // The C interface: the remark's number, and 256 where it is the standing text; where it begins, and its length.

@@ -9,6 +9,7 @@ use lib.Dec.{leb, ltb, eqb}
 use lib.ListN.{getD}
 use borrow.Author.Tests.{eq-eqb, ne-eqb}
 use Rattle.fields.specs.Lists.{pick, all, series, seek}
+use Rattle.fields.proofs.Bools.{passed-over}
 use Rattle.fields.proofs.Tests.{series-at}
 use Rattle.quantities.specs.declared.Minute.{Minute}
 use Rattle.report.specs.declared.Head.{Head}
@@ -20,7 +21,7 @@ use Rattle.rules.specs.Block.{slotCount, unitHead}
 use Rattle.rules.specs.Questions.{creationHead, recordBy, recordOf, recordAt, holder, heldRecord, other, leaves, stays, freeSlot, changesBy, changesState, hasTransition, question15, question16, question18, question19}
 use Rattle.rules.specs.Minutes.{FullRecord, reportedRecords, question17}
 use Rattle.rules.specs.After.{slotWritten, cleared, someSlot}
-use Rattle.rules.specs.Judge.{skips, validationNumber, heldNumber, limitNumber, refusalNumber}
+use Rattle.rules.specs.Judge.{skips, partBeside, validationNumber, heldNumber, limitNumber, refusalNumber}
 use Rattle.levels.specs.Counted.{reportRecord, sweptRecords}
 use Rattle.validation.specs.declared.Validated.{Validated}
 use Rattle.validation.specs.Parts.{validatedOf}
@@ -60,14 +61,13 @@ module _ (b s : List ℕ) (h : Head) (unit : UnitHead) (slot : ℕ) (changes der
       asked ∙ ap (λ (m : Bool). limitNumber h (survey .closed) deratings m state room 0) swept
       ∙ asked-last h (survey .closed) deratings passed-over skipped _ state room ∙ rw (stepped, lowest, asked-slots)
 
-  pub limits-refuse : {d : Decision} → (n ≡ 0 → ⊥) → d ≡ refusedDecision n → d ≡ limitsDecided b s h unit slot changes deratings
+  pub limits-refuse : {d : Decision} → (n ≡ 0 → ⊥) → d ≡ refusedDecision n 0 → d ≡ limitsDecided b s h unit slot changes deratings
   unfolding decidedBy pick
   limits-refuse ne e = e ∙ rw (← number-is, ne-eqb n 0 ne)
 
   pub limits-accept : {w : ℕ} {left : Bool} → (n ≡ 0) → w ≡ writtenBy h slot free → left ≡ someOf (survey .leaves)
-      → record
-      { number = 0; cleared = survey .cleared; written = w; changes = changes; left = left } ≡ limitsDecided b s h unit slot changes
-      deratings
+      → record { number = 0; part = 0; cleared = survey .cleared; written = w; changes = changes; left = left }
+      ≡ limitsDecided b s h unit slot changes deratings
   unfolding decidedBy pick
   limits-accept z w l = rw (← number-is, eq-eqb n 0 z, w, l, lowest, asked-slots)
 
@@ -93,6 +93,22 @@ held-next : (last : Minute) (h : Head) (slot : ℕ) (held : Record) (next : ℕ)
 unfolding heldNumber
 held-next last h slot held next = step 9 _ next _ (step 10 _ next _ (step 11 _ next _ (step 12 _ next _ (step 13 _ next _
     (stop-here next)))))
+
+-- no question but 8 names a part
+not-8 : (q : Bool) (next n : ℕ) → eqb next 8 ≡ false → eqb n 8 ≡ false → eqb (pick q next n) 8 ≡ false
+unfolding pick
+not-8 true next n e f = e
+not-8 false next n e f = f
+
+held-names-none : (last : Minute) (h : Head) (slot : ℕ) (held : Record) → eqb (heldNumber last h slot held 0) 8 ≡ false
+unfolding heldNumber
+held-names-none last h slot held =
+    not-8 _ _ 10 (not-8 _ _ 11 (not-8 _ _ 12 (not-8 _ _ 13 (not-8 _ 0 14 refl refl) refl) refl) refl) refl
+
+limits-name-none : (h : Head) (q15 q16 q17 q18 q19 : Bool) → eqb (limitNumber h q15 q16 q17 q18 q19 0) 8 ≡ false
+unfolding limitNumber
+limits-name-none h q15 q16 q17 q18 q19 =
+    not-8 _ _ 15 (not-8 _ _ 16 (not-8 _ _ 17 (not-8 _ _ 18 (not-8 _ 0 19 refl refl) refl) refl) refl) refl
 
 -- the slots of the block and the report
 module _ (b s : List ℕ) where
@@ -154,15 +170,23 @@ module _ (b s : List ℕ) where
       ∙ ap (λ (n : ℕ). pick (eqb validation 0) n validation)
       (held-next (unitHead b .«last_stamp») (headOf s) (holder b s) (heldRecord b s) _ ∙ rw (surveyed, lowest-is, swept-is))
 
-  refuses-with : {n : ℕ} → refusalNumber b s ≡ n → (n ≡ 0 → ⊥) → refusedDecision n ≡ decisionOf b s
-  unfolding decisionOf pick
-  refuses-with {n} e ne = rw (e, ne-eqb n 0 ne)
+  refuses-with : {n : ℕ} → refusalNumber b s ≡ n → (n ≡ 0 → ⊥)
+      → refusedDecision n (partBeside n (headOf s) (partsOf s)) ≡ decisionOf b s
+  unfolding decisionOf
+  refuses-with {n} e ne = rw (e, passed-over _ _ refl (ne-eqb n 0 ne))
+
+  refuses-unnamed : {n : ℕ} → refusalNumber b s ≡ n → (n ≡ 0 → ⊥) → eqb n 8 ≡ false → refusedDecision n 0 ≡ decisionOf b s
+  refuses-unnamed {n} e ne other =
+      ap (refusedDecision n) (sym (passed-over _ 0 refl other)) ∙ refuses-with e ne
+
+  limits-unnamed : partBeside limits (headOf s) (partsOf s) ≡ 0
+  limits-unnamed = passed-over _ 0 refl (limits-name-none (headOf s) _ _ _ _ _)
 
   decides-with : refusalNumber b s ≡ limits
       → limitsDecided b s (headOf s) (unitHead b) (holder b s) (changesState b s) (question16 (unitHead b .powers) (headOf s)
       (partsOf s)) ≡ decisionOf b s
   unfolding decidedBy decisionOf
-  decides-with e = rw (e, surveyed, lowest-is, left-is, written-is)
+  decides-with e = rw (e, limits-unnamed, surveyed, lowest-is, left-is, written-is)
 
   changes-is : changesBy (unitHead b .kind) (headOf s) (recordAt b (holder b s)) ≡ changesState b s
   unfolding changesState
@@ -174,9 +198,13 @@ module _ (b s : List ℕ) where
     first : v .number ≡ validation
     first = ap (λ (v : Validated). v .number) asked-first ∙ rw (read, head)
 
-    pub stops-at-validation : {d : Decision} → (v .number ≡ 0 → ⊥) → d ≡ refusedDecision (v .number) → d ≡ decisionOf b s
-    unfolding pick
-    stops-at-validation ne e = e ∙ refuses-with (number-by ∙ rw (← first, ne-eqb (v .number) 0 ne)) ne
+    named : v .part ≡ partBeside (v .number) (headOf s) (partsOf s)
+    named = rw (ap (λ (v : Validated). v .number) asked-first, ap (λ (v : Validated). v .part) asked-first, head)
+
+    pub stops-at-validation : {d : Decision} → (v .number ≡ 0 → ⊥) → d ≡ refusedDecision (v .number) (v .part) → d ≡ decisionOf b s
+    stops-at-validation ne e =
+        e ∙ ap (refusedDecision (v .number)) named
+        ∙ refuses-with (number-by ∙ rw (← first, passed-over _ _ refl (ne-eqb (v .number) 0 ne))) ne
 
     module _ (passed : v .number ≡ 0) {r x : Record} {slot n : ℕ} (own : r ≡ recordBy h) (found : slot ≡ holderOf b r)
         (there : x ≡ recordAt b slot) (asked-next : n ≡ heldNumber (unit .«last_stamp») h slot x 0) where
@@ -187,9 +215,11 @@ module _ (b s : List ℕ) where
       second : n ≡ held
       second = asked-next ∙ rw (there, slot-is, read, head)
 
-      pub stops-at-holder : {d : Decision} → (n ≡ 0 → ⊥) → d ≡ refusedDecision n → d ≡ decisionOf b s
+      pub stops-at-holder : {d : Decision} → (n ≡ 0 → ⊥) → d ≡ refusedDecision n 0 → d ≡ decisionOf b s
       unfolding pick
-      stops-at-holder ne e = e ∙ refuses-with (number-by ∙ rw (← first, eq-eqb (v .number) 0 passed, ← second, ne-eqb n 0 ne)) ne
+      stops-at-holder ne e =
+          e ∙ refuses-unnamed (number-by ∙ rw (← first, eq-eqb (v .number) 0 passed, ← second, ne-eqb n 0 ne)) ne
+          (rw asked-next (held-names-none (unit .«last_stamp») h slot x))
 
       pub decides : {d : Decision} {changes : Bool} → n ≡ 0 → changes ≡ changesBy (unit .kind) h x
           → d ≡ limitsDecided b s h unit slot changes (v .deratings) → d ≡ decisionOf b s

@@ -6,13 +6,14 @@ use lib.Dec.{eqb}
 use lib.ListN.{replicate}
 use Rattle.fields.specs.Lists.{pick, series}
 use Rattle.report.specs.declared.Head.{Head}
+use Rattle.report.specs.Report.{headOf, partsOf}
 use Rattle.rules.specs.declared.UnitHead.{UnitHead}
 use Rattle.rules.specs.Codes.{change}
 use Rattle.rules.specs.Block.{slotCount}
 use Rattle.rules.specs.Questions.{creationHead, changesState, leaves, stays, question18, question19}
 use Rattle.rules.specs.Minutes.{question17}
 use Rattle.rules.specs.After.{slotWritten, cleared, someSlot}
-use Rattle.rules.specs.Judge.{limitNumber, refusalNumber}
+use Rattle.rules.specs.Judge.{partBeside, limitNumber, refusalNumber}
 use Rattle.levels.specs.Counted.{sweptRecords}
 use Rattle.judge.specs.declared.Decision.{Decision}
 use Rattle.judge.specs.declared.Survey.{Survey}
@@ -22,8 +23,15 @@ use Rattle.judge.specs.Survey.{surveyOf, freeAmong, someOf}
 unfoldable pub writtenBy : Head → ℕ → ℕ → ℕ
 writtenBy h slot free = pick (creationHead h) free (pick (eqb (h .operation) change) slot slotCount)
 
-abbrev pub refusedDecision : ℕ → Decision
-refusedDecision n = record { number = n; cleared = replicate slotCount false; written = slotCount; changes = false; left = false }
+abbrev pub refusedDecision : ℕ → ℕ → Decision
+refusedDecision n part = record {
+  number = n;
+  part = part;
+  cleared = replicate slotCount false;
+  written = slotCount;
+  changes = false;
+  left = false;
+}
 
 -- questions 15 to 19, after the others
 abbrev pub numberAfter : List ℕ → List ℕ → Head → UnitHead → Bool → Bool → Survey → ℕ
@@ -38,12 +46,13 @@ decidedBy h slot changes survey n =
     pick (eqb n 0)
     (record {
       number = 0;
+      part = 0;
       cleared = survey .cleared;
       written = writtenBy h slot (freeAmong (survey .stays));
       changes = changes;
       left = someOf (survey .leaves);
     })
-    (refusedDecision n)
+    (refusedDecision n 0)
 
 abbrev pub limitsDecided : List ℕ → List ℕ → Head → UnitHead → ℕ → Bool → Bool → Decision
 limitsDecided b s h unit slot changes deratings =
@@ -56,9 +65,10 @@ decisionOf b s =
     pick (eqb (refusalNumber b s) 0)
     (record {
       number = 0;
+      part = 0;
       cleared = series (cleared b s) 0 slotCount;
       written = slotWritten b s;
       changes = changesState b s;
       left = someSlot (leaves b s);
     })
-    (refusedDecision (refusalNumber b s))
+    (refusedDecision (refusalNumber b s) (partBeside (refusalNumber b s) (headOf s) (partsOf s)))

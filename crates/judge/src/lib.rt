@@ -50,10 +50,11 @@ pub struct Survey {
     pub cleared: [bool; 8],
 }
 
-// The number of the first "no", or 0; then the slots that are cleared, the slot that is written (8: none), whether the state
+// The number of the first "no", or 0, and beside 8 the part that breaks cover; then the slots that are cleared, the slot that is written (8: none), whether the state
 // changes, and whether some record leaves.
 pub struct Decision {
     pub number: u8,
+    pub part: u16,
     pub cleared: [bool; 8],
     pub written: u8,
     pub changes: bool,
@@ -298,12 +299,13 @@ fn slot_written(h: Head, slot: u8, free: u8) -> u8
     )
 }
 
-fn refuse(number: u8) -> Decision
-    ensures { λ r. ⌜ r ≡ refusedDecision number ⌝ }
+fn refuse(number: u8, part: u16) -> Decision
+    ensures { λ r. ⌜ r ≡ refusedDecision number part ⌝ }
 {
     let cleared = [false; 8];
     Decision {
         number,
+        part,
         cleared,
         written: SLOT_COUNT,
         changes: false,
@@ -335,10 +337,11 @@ fn decide_limits(
     let room = !((h.operation == CREATE) & !(h.record_type == EVENT)) | (free < SLOT_COUNT);
     let number = limit_number(h, survey.closed, deratings, minutes, state, room);
     if number != 0 {
-        return refuse(number);
+        return refuse(number, 0);
     }
     Decision {
         number: 0,
+        part: 0,
         cleared,
         written: slot_written(h, slot, free),
         changes,
@@ -354,13 +357,13 @@ pub fn decide(b: &[u8], report: &[u8]) -> Decision
     let unit = block::unit_head(b);
     let validated = validation::validate(unit, h, report);
     if validated.number != 0 {
-        return refuse(validated.number);
+        return refuse(validated.number, validated.part);
     }
     let slot = find_holder(b, records::record_by(h));
     let held = record_at(b, slot);
     let number = held_number(unit.last_stamp, h, slot, held);
     if number != 0 {
-        return refuse(number);
+        return refuse(number, 0);
     }
     let changes = changes_state(unit.kind, h, held);
     decide_limits(b, report, h, unit, slot, changes, validated.deratings)

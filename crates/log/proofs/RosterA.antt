@@ -26,7 +26,7 @@ use Rattle.log.specs.RosterA.{oneAfterOther, streamA, logA}
 
 expectedAnswers : List Expected → List Answer
 expectedAnswers [] = []
-expectedAnswers (e ∷ es) = record { number = e .number; warnings = e .warnings } ∷ expectedAnswers es
+expectedAnswers (e ∷ es) = record { number = e .number; warnings = e .warnings; part = e .part } ∷ expectedAnswers es
 
 same-answers : (es : List Expected) (answered : List Answer) → sameAnswers es answered ≡ true → answered ≡ expectedAnswers es
 unfolding sameAnswers expectedAnswers
@@ -34,12 +34,17 @@ same-answers [] [] p = refl
 same-answers [] (a ∷ rest) p = absurd (false≢true p)
 same-answers (e ∷ es) [] p = absurd (false≢true p)
 same-answers (e ∷ es) (a ∷ rest) p =
-    let both = and-left (eqb (e .number) (a .number) && eqb (e .warnings) (a .warnings)) (sameAnswers es rest) p in
-    let others = and-right (eqb (e .number) (a .number) && eqb (e .warnings) (a .warnings)) (sameAnswers es rest) p in
-    let number = eqb-true (e .number) (a .number) (and-left (eqb (e .number) (a .number)) (eqb (e .warnings) (a .warnings)) both) in
-    let warned = eqb-true (e .warnings) (a .warnings) (and-right (eqb (e .number) (a .number)) (eqb (e .warnings) (a .warnings))
-    both) in
-    rw (number, warned, same-answers es rest others)
+    let same-number = eqb (e .number) (a .number) in
+    let same-warnings = eqb (e .warnings) (a .warnings) in
+    let same-part = eqb (e .part) (a .part) in
+    let three = and-left (same-number && same-warnings && same-part) (sameAnswers es rest) p in
+    let two = and-left (same-number && same-warnings) same-part three in
+    rw (
+      eqb-true (e .number) (a .number) (and-left same-number same-warnings two),
+      eqb-true (e .warnings) (a .warnings) (and-right same-number same-warnings two),
+      eqb-true (e .part) (a .part) (and-right (same-number && same-warnings) same-part three),
+      same-answers es rest (and-right (same-number && same-warnings && same-part) (sameAnswers es rest) p),
+    )
 
 answered : answers (newRegister rosterA) loggedReports ≡ expectedAnswers (logged .expected)
 unfolding right

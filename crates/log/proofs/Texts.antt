@@ -136,20 +136,19 @@ module _ (here : List ℕ) (at number : ℕ) (stamp : Minute) {t : Bool} (test :
       let same : date ≡ dateText (dateOf stamp) = d ∙ rw time in
       rw (both, ← same) p
 
-pub line-text-put : (line : ℕ) (s : List ℕ) (a : Answer) (unit : ℕ) (stamp : Minute) (here t₁ t₂ t₃ t₄ t₅ : List ℕ)
-    (e₁ e₂ e₃ e₄ e₅ : ℕ) → unit ≡ headOf s .unit → stamp ≡ headOf s .stamp → Put here 0 (numberColumn line) t₁ e₁
+pub line-text-put : (line : ℕ) (s : List ℕ) (a : Answer) (unit : ℕ) (stamp : Minute) (here t₁ t₂ t₃ t₄ t₅ t₆ : List ℕ)
+    (e₁ e₂ e₃ e₄ e₅ e₆ : ℕ) → unit ≡ headOf s .unit → stamp ≡ headOf s .stamp → Put here 0 (numberColumn line) t₁ e₁
     → Put t₁ e₁ (unitText (a .number) unit ++ space) t₂ e₂ → Put t₂ e₂ (numberColumn (a .number)) t₃ e₃
-    → Put t₃ e₃ (numberColumn (a .warnings)) t₄ e₄ → Put t₄ e₄ (stampText (a .number) stamp) t₅ e₅
-    → Line here (lineText line s a) t₅ e₅
+    → Put t₃ e₃ (numberColumn (a .warnings)) t₄ e₄ → Put t₄ e₄ (numberColumn (a .part)) t₅ e₅
+    → Put t₅ e₅ (stampText (a .number) stamp) t₆ e₆ → Line here (lineText line s a) t₆ e₆
 unfolding lineText
-line-text-put line s a unit stamp here t₁ t₂ t₃ t₄ t₅ e₁ e₂ e₃ e₄ e₅ same-unit same-stamp line-there unit-put number-put
-    warnings-put stamp-put =
+line-text-put line s a unit stamp here t₁ t₂ t₃ t₄ t₅ t₆ e₁ e₂ e₃ e₄ e₅ e₆ same-unit same-stamp line-there unit-put number-put
+    warnings-put part-put stamp-put =
     let unit-of = rw same-unit at unit-put in
     let stamp-of = rw same-stamp at stamp-put in
+    let numbered = put-then _ _ _ _ _ _ _ _ (put-then _ _ _ _ _ _ _ _ line-there unit-of) number-put in
     line-of _ _ _ _
-    (put-then _ _ _ _ _ _ _ _
-    (put-then _ _ _ _ _ _ _ _ (put-then _ _ _ _ _ _ _ _ (put-then _ _ _ _ _ _ _ _ line-there unit-of) number-put) warnings-put)
-    stamp-of)
+    (put-then _ _ _ _ _ _ _ _ (put-then _ _ _ _ _ _ _ _ (put-then _ _ _ _ _ _ _ _ numbered warnings-put) part-put) stamp-of)
 
 -- a line that is there, and what comes after it
 pub line-then : (here there last : List ℕ) (mid end : ℕ) (x y : List ℕ) → Line here x there mid → Put there mid y last end

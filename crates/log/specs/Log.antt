@@ -32,7 +32,7 @@ abbrev pub hyphen : List ℕ
 hyphen = ascii "-"
 
 abbrev pub headerText : List ℕ
-headerText = ascii "no unit answer warn stamp"
+headerText = ascii "no unit answer warn part stamp"
 
 abbrev pub logHeader : List ℕ
 logHeader = headerText ++ lineFeed
@@ -55,11 +55,11 @@ stampText number stamp = pick (not (eqb number 2) && isTime stamp) (dateText (da
 abbrev pub numberColumn : ℕ → List ℕ
 numberColumn n = decimal n ++ space
 
--- a report's line without its line feed
+-- a report's line without its line feed; 02, A1: "the log gets a column "part" after "warn", in header and lines"
 unfoldable pub lineText : ℕ → List ℕ → Answer → List ℕ
 lineText line s a =
     numberColumn line ++ (unitText (a .number) (headOf s .unit) ++ space) ++ numberColumn (a .number) ++ numberColumn (a .warnings)
-    ++ stampText (a .number) (headOf s .stamp)
+    ++ numberColumn (a .part) ++ stampText (a .number) (headOf s .stamp)
 
 abbrev pub logLine : ℕ → List ℕ → Answer → List ℕ
 logLine line s a = lineText line s a ++ lineFeed

@@ -117,7 +117,7 @@ fn put_stamp(text: &mut [u8], at: usize, number: u8, stamp: Minute) -> usize
 
 // A report's line at the start of the text, without its line feed.
 fn put_line_text(text: &mut [u8], line: u64, report: &[u8], a: Answer) -> usize
-    ensures { λ r. ⌜ r ≤ 100 ⌝ }
+    ensures { λ r. ⌜ r ≤ 121 ⌝ }
     ensures { λ r. ⌜ r ≡ length (lineText line (now (report .entry)) a) ⌝ }
     ensures { λ _. ⌜ now (text .exit) ≡ put (now (text .entry)) 0 (lineText line (now (report .entry)) a) ⌝ }
 {
@@ -125,7 +125,8 @@ fn put_line_text(text: &mut [u8], line: u64, report: &[u8], a: Answer) -> usize
     let unit_at = put_number(text, 0, line);
     let number_at = put_unit(text, unit_at, a.number, h.unit);
     let warnings_at = put_number(text, number_at, a.number as u64);
-    let stamp_at = put_number(text, warnings_at, a.warnings as u64);
+    let part_at = put_number(text, warnings_at, a.warnings as u64);
+    let stamp_at = put_number(text, part_at, a.part as u64);
     put_stamp(text, stamp_at, a.number, h.stamp)
 }
 
@@ -177,7 +178,7 @@ fn put_shown(text: &mut [u8], at: usize, bytes: &[u8]) -> usize
 }
 
 fn put_remark(text: &mut [u8], at: usize, report: &[u8]) -> usize
-    requires { ⌜ at ≤ 100 ⌝ }
+    requires { ⌜ at ≤ 121 ⌝ }
     ensures { λ r. ⌜ r ≤ at + 803 ⌝ }
     ensures { λ r. ⌜ r ≡ at + length (remarkColumn (now (report .entry))) ⌝ }
     ensures { λ _. ⌜ now (text .exit) ≡ put (now (text .entry)) at (remarkColumn (now (report .entry))) ⌝ }
@@ -216,7 +217,7 @@ pub fn put_header(text: &mut [u8]) -> usize
     ensures { λ r. ⌜ r ≡ length logHeader ⌝ }
     ensures { λ _. ⌜ now (text .exit) ≡ put (now (text .entry)) 0 logHeader ⌝ }
 {
-    put_text(text, 0, b"no unit answer warn stamp\n")
+    put_text(text, 0, b"no unit answer warn part stamp\n")
 }
 
 pub fn put_remarks_header(text: &mut [u8]) -> usize
@@ -224,7 +225,7 @@ pub fn put_remarks_header(text: &mut [u8]) -> usize
     ensures { λ r. ⌜ r ≡ length remarksHeader ⌝ }
     ensures { λ _. ⌜ now (text .exit) ≡ put (now (text .entry)) 0 remarksHeader ⌝ }
 {
-    put_text(text, 0, b"no unit answer warn stamp | remark\n")
+    put_text(text, 0, b"no unit answer warn part stamp | remark\n")
 }
 
 // What is printed where set-up refuses the roster.

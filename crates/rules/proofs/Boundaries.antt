@@ -90,6 +90,10 @@ form-cover : failing 1 form.cover ≡ []
 unfolding computed failing sameBytes
 form-cover = refl
 
+form-namedParts : failing 1 form.namedParts ≡ []
+unfolding computed failing sameBytes
+form-namedParts = refl
+
 form-powers : failing 1 form.powers ≡ []
 unfolding computed failing sameBytes
 form-powers = refl
@@ -211,6 +215,7 @@ boundaries-hold = record {
   form-consistentTimes = form-consistentTimes;
   form-quarters = form-quarters;
   form-cover = form-cover;
+  form-namedParts = form-namedParts;
   form-powers = form-powers;
   slots-stamps = slots-stamps;
   slots-identifiers = slots-identifiers;

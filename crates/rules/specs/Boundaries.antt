@@ -48,6 +48,7 @@ pub record BoundariesHold : Type 0 where
   pub form-consistentTimes : failing 1 form.consistentTimes ≡ []
   pub form-quarters : failing 1 form.quarters ≡ []
   pub form-cover : failing 1 form.cover ≡ []
+  pub form-namedParts : failing 1 form.namedParts ≡ []
   pub form-powers : failing 1 form.powers ≡ []
   -- questions 10 to 15
   pub slots-stamps : failing 1 slots.stamps ≡ []

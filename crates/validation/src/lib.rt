@@ -10,6 +10,7 @@ use records::POSITIVE_DERATING;
 use records::STOP;
 use records::WITHDRAW;
 use records::ask;
+use report::Cover;
 use report::Head;
 use report::Part;
 use rules::PowerRange;
@@ -20,8 +21,7 @@ ghost use mathlib.Core.List.{[]};
 ghost use Rattle.report.specs.Report.{partsOf};
 ghost use Rattle.rules.specs.Records.{partTimes, begun};
 ghost use Rattle.rules.specs.Questions.{recordBy, quarterHour, partOnQuarter, deratingFits, question4, question6, question8, question16};
-ghost use Rattle.rules.specs.Judge.{validationNumber};
-ghost use Rattle.validation.specs.Parts.{answersOf, PartsAsked, validatedOf};
+ghost use Rattle.validation.specs.Parts.{answersOf, PartsAsked, refusalWith, validationRefusal, validatedOf};
 
 // What is asked of each part: its times (question 4), its end on a quarter hour (7), its power (9), its derating (16).
 pub struct PartAnswers {
@@ -31,9 +31,16 @@ pub struct PartAnswers {
     pub deratings: bool,
 }
 
-// The number of the first "no" of questions 4 to 9, or 0, and question 16.
+// The number of the first "no" of questions 4 to 9, or 0, and beside 8 the part that breaks cover.
+pub struct Refusal {
+    pub number: u8,
+    pub part: u16,
+}
+
+// The same, and question 16.
 pub struct Validated {
     pub number: u8,
+    pub part: u16,
     pub deratings: bool,
 }
 
@@ -125,32 +132,44 @@ fn head_is_on_quarters(h: Head) -> bool
 }
 
 // Question 8.
-fn parts_pass(h: Head, report: &[u8]) -> bool
+fn judge_cover(h: Head, report: &[u8]) -> Cover
     ensures { λ r. ⌜ r ≡ question8 h (partsOf (now (report .entry))) ⌝ }
 {
-    let empty = report::part_count(report) == 0;
     if (h.operation == WITHDRAW) | !records::is_levelled(h.record_type) {
-        return empty;
+        return report::no_parts(report);
     }
-    report::parts_cover(report, h.period)
+    report::cover_of(report, h.period)
+}
+
+fn refusal_with(number: u8, cover: Cover) -> Refusal
+    ensures { λ r. ⌜ r ≡ refusalWith number cover ⌝ }
+{
+    if number == 8 {
+        Refusal {
+            number,
+            part: cover.part,
+        }
+    } else {
+        Refusal {
+            number,
+            part: 0,
+        }
+    }
 }
 
 // Questions 4 to 9, after what was asked of each part.
-fn validation_number(kind: u8, h: Head, report: &[u8], parts: PartAnswers) -> u8
+fn validation_refusal(kind: u8, h: Head, report: &[u8], parts: PartAnswers) -> Refusal
     requires { ⌜ PartsAsked (partsOf (now report)) (h .stamp) parts ⌝ }
-    ensures { λ r. ⌜ r ≡ validationNumber kind h (partsOf (now (report .entry))) 0 ⌝ }
+    ensures { λ r. ⌜ r ≡ validationRefusal kind h (partsOf (now (report .entry))) ⌝ }
 {
     let r = records::record_by(h);
     let fields = head_passes(h) & parts.times;
     let quarters = (h.record_type == EVENT) | (head_is_on_quarters(h) & parts.on_quarters);
-    let from_8 = ask(h, 8, parts_pass(h, report), ask(h, 9, parts.powers, 0));
+    let cover = judge_cover(h, report);
+    let from_8 = ask(h, 8, cover.covered, ask(h, 9, parts.powers, 0));
     let from_6 = ask(h, 6, times_are_consistent(h), ask(h, 7, quarters, from_8));
-    ask(
-        h,
-        4,
-        fields,
-        ask(h, 5, records::kind_allows(kind, r), from_6),
-    )
+    let from_5 = ask(h, 5, records::kind_allows(kind, r), from_6);
+    refusal_with(ask(h, 4, fields, from_5), cover)
 }
 
 // Questions 4 to 9, and 16.
@@ -159,8 +178,10 @@ pub fn validate(unit: UnitHead, h: Head, report: &[u8]) -> Validated
 {
     let range = records::range_of(unit.powers, h.direction);
     let parts = ask_parts(report, h.stamp, range, h.record_type);
+    let refusal = validation_refusal(unit.kind, h, report, parts);
     Validated {
-        number: validation_number(unit.kind, h, report, parts),
+        number: refusal.number,
+        part: refusal.part,
         deratings: parts.deratings,
     }
 }

@@ -7,7 +7,7 @@ use Rattle.desk.proofs.judge_block.Statement.{statement}
 use Rattle.desk.proofs.judge_block.Tie as tie
 
 returns : tie.Need-returns
-returns c = refuses _ _ (c .before .before .before .decide .ensures) (c .before .if1 .taken) (c .refusal .ensures)
+returns c = refuses _ _ (c .before .before .decide .ensures) (c .if1 .taken)
 
 returns-2 : tie.Need-returns-2
 returns-2 c =
@@ -17,7 +17,6 @@ pub judge-block-spec : {M : Type 1} → statement M
 judge-block-spec =
     tie.close
     (tie.spec
-    (λ c κs. search needs)
     (λ c κs. search needs)
     (λ c. search needs)
     returns

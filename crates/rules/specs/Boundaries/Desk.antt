@@ -49,7 +49,7 @@ owners =
 
 -- the register's answer
 abbrev pub registerGives : ℕ → List ℕ → List ℕ → Bool
-registerGives n register s = eqb (answerTo register s .answer .number) n
+registerGives n register s = eqb (answerTo register s .answer .number) n && eqb (answerTo register s .answer .part) 0
 
 abbrev pub registerOfOne : List ℕ
 registerOfOne = newRegister (entryBytes entryW)

@@ -1,15 +1,18 @@
 -- Questions 4 to 9: for each clause a report that just passes and one that just fails.
-use Prim.Native.Nat.{ℕ, _+_}
+use Prim.Native.Nat.{ℕ, _+_, _-_}
 use mathlib.Core.List.{List, [], _∷_, _++_}
-use mathlib.Core.Bool.{Bool, not}
+use mathlib.Core.Bool.{Bool, not, _&&_}
+use lib.Dec.{eqb}
+use lib.ListN.{take, drop}
 use Rattle.fields.specs.Lists.{series}
+use Rattle.quantities.specs.declared.Period.{Period}
 use Rattle.report.specs.declared.Part.{Part}
-use Rattle.report.specs.Cover.{partsCover}
+use Rattle.report.specs.Cover.{coverOf}
 use Rattle.report.specs.Report.{headOf, partsOf}
 use Rattle.rules.specs.Codes.{stop, positiveDerating, negativeDerating, forcedWork, offGrid, event, planned, executed}
 use Rattle.rules.specs.Questions.{question7}
 use Rattle.rules.specs.Samples.{period, partOf, _but_, byte, word, type, operation, direction, mark, qualification, ordinal, identifier, stamp, start, end, created, levelled, plannedStop, begunStop, eventAt, slotOf}
-use Rattle.rules.specs.Boundaries.Tests.{unitW, unitM, unitZ, unitA, positive, negative, forced, offGridAt, withdrawn, gives}
+use Rattle.rules.specs.Boundaries.Tests.{unitW, unitM, unitZ, unitA, positive, negative, forced, offGridAt, withdrawn, gives, names}
 
 -- "0 to 26,298,719"
 abbrev pub lastTime : ℕ
@@ -84,7 +87,7 @@ times =
     ∷ gives 7 unitW (positive 20000 but word 40 lastTime)
     ∷ gives 4 unitW (positive 20000 but word 40 noTime)
     -- a part's start and end, the second one's too, a stop's too
-    ∷ gives 8 unitW (positive 20000 but word 52 lastTime)
+    ∷ names 1 unitW (positive 20000 but word 52 lastTime)
     ∷ gives 4 unitW (positive 20000 but word 52 noTime)
     ∷ gives 7 unitW (positive 20000 but word 56 lastTime)
     ∷ gives 4 unitW (positive 20000 but word 56 noTime)
@@ -194,6 +197,13 @@ inParts parts = created positiveDerating 15 45 parts
 abbrev pub minutes : ℕ → List Part
 minutes n = series (λ i. partOf i (i + 1) 0) 0 n
 
+-- the parts cover the period and none is named; they do not, and part n is named
+abbrev pub covered : List Part → Period → Bool
+covered ps q = coverOf ps q .covered && eqb (coverOf ps q .part) 0
+
+abbrev pub brokenAt : ℕ → List Part → Period → Bool
+brokenAt n ps q = not (coverOf ps q .covered) && eqb (coverOf ps q .part) n
+
 -- 8. "Types 2–4: do 1 to 100 parts, each start < end, cover the period, in time order, without gap or overlap? Other types, and
 -- withdrawals: no parts?"
 abbrev pub cover : List Bool
@@ -207,21 +217,57 @@ cover =
     ∷ gives 8 (unitW ++ slotOf (positive 20000)) (positive 20000 but operation 3 but ordinal 2)
     ∷ gives 0 unitW (inParts (partOf 15 30 20000 ∷ partOf 30 45 20000 ∷ []))
     -- "cover the period"
-    ∷ gives 8 unitW (inParts (partOf 16 30 20000 ∷ partOf 30 45 20000 ∷ []))
-    ∷ gives 8 unitW (inParts (partOf 14 30 20000 ∷ partOf 30 45 20000 ∷ []))
-    ∷ gives 8 unitW (inParts (partOf 15 30 20000 ∷ []))
-    ∷ gives 8 unitW (inParts (partOf 15 30 20000 ∷ partOf 30 60 20000 ∷ []))
+    ∷ names 1 unitW (inParts (partOf 16 30 20000 ∷ partOf 30 45 20000 ∷ []))
+    ∷ names 1 unitW (inParts (partOf 14 30 20000 ∷ partOf 30 45 20000 ∷ []))
+    ∷ names 1 unitW (inParts (partOf 15 30 20000 ∷ []))
+    ∷ names 2 unitW (inParts (partOf 15 30 20000 ∷ partOf 30 60 20000 ∷ []))
     -- "each start < end", "in time order, without gap or overlap"
-    ∷ gives 8 unitW (inParts (partOf 15 30 20000 ∷ partOf 30 30 20000 ∷ partOf 30 45 20000 ∷ []))
-    ∷ gives 8 unitW (inParts (partOf 15 30 20000 ∷ partOf 30 15 20000 ∷ partOf 15 45 20000 ∷ []))
-    ∷ gives 8 unitW (inParts (partOf 30 45 20000 ∷ partOf 15 30 20000 ∷ []))
-    ∷ gives 8 unitW (inParts (partOf 15 30 20000 ∷ partOf 31 45 20000 ∷ []))
-    ∷ gives 8 unitW (inParts (partOf 15 30 20000 ∷ partOf 29 45 20000 ∷ []))
+    ∷ names 2 unitW (inParts (partOf 15 30 20000 ∷ partOf 30 30 20000 ∷ partOf 30 45 20000 ∷ []))
+    ∷ names 2 unitW (inParts (partOf 15 30 20000 ∷ partOf 30 15 20000 ∷ partOf 15 45 20000 ∷ []))
+    ∷ names 1 unitW (inParts (partOf 30 45 20000 ∷ partOf 15 30 20000 ∷ []))
+    ∷ names 2 unitW (inParts (partOf 15 30 20000 ∷ partOf 31 45 20000 ∷ []))
+    ∷ names 2 unitW (inParts (partOf 15 30 20000 ∷ partOf 29 45 20000 ∷ []))
     -- "1 to 100 parts"
-    ∷ partsCover (minutes 1) (period 0 1)
-    ∷ partsCover (minutes 100) (period 0 100)
-    ∷ not (partsCover (minutes 101) (period 0 101))
-    ∷ not (partsCover [] (period 0 0))
+    ∷ covered (minutes 1) (period 0 1)
+    ∷ covered (minutes 100) (period 0 100)
+    ∷ brokenAt 0 (minutes 101) (period 0 101)
+    ∷ brokenAt 0 [] (period 0 0)
+    ∷ []
+
+-- n parts of one minute from D on, but for part i, from 1
+abbrev pub minutesBut : ℕ → ℕ → Part → List Part
+minutesBut n i p = take (i - 1) (minutes n) ++ (p ∷ drop i (minutes n))
+
+-- 02, A1: "the number, from 1, of the first part that breaks it; a list that stops short names the last part; a missing list, or a
+-- list where none may be, names 0"
+abbrev pub namedParts : List Bool
+namedParts =
+    -- the first of two that break it; an end past the period's; a part after the end is reached
+    names 1 unitW (inParts (partOf 16 30 20000 ∷ partOf 31 45 20000 ∷ []))
+    ∷ names 1 unitW (inParts (partOf 15 60 20000 ∷ partOf 60 45 20000 ∷ []))
+    ∷ names 3 unitW (inParts (partOf 15 30 20000 ∷ partOf 30 45 20000 ∷ partOf 45 60 20000 ∷ []))
+    -- lists that stop short
+    ∷ names 2 unitW (created positiveDerating 15 60 (partOf 15 30 20000 ∷ partOf 30 45 20000 ∷ []))
+    ∷ brokenAt 1 (minutes 1) (period 0 2)
+    ∷ brokenAt 99 (minutes 99) (period 0 100)
+    ∷ brokenAt 100 (minutes 100) (period 0 101)
+    -- ninety parts, the 57th off by a minute: its start late or early, or its end
+    ∷ brokenAt 57 (minutesBut 90 57 (partOf 57 58 0)) (period 0 90)
+    ∷ brokenAt 57 (minutesBut 90 57 (partOf 55 57 0)) (period 0 90)
+    ∷ brokenAt 58 (minutesBut 90 57 (partOf 56 58 0)) (period 0 90)
+    ∷ brokenAt 57 (minutesBut 90 57 (partOf 56 56 0)) (period 0 90)
+    ∷ brokenAt 57 (minutesBut 90 57 (partOf 56 91 0)) (period 0 90)
+    -- the hundredth
+    ∷ brokenAt 100 (minutesBut 100 100 (partOf 98 100 0)) (period 0 100)
+    ∷ brokenAt 100 (minutesBut 100 100 (partOf 99 99 0)) (period 0 100)
+    ∷ brokenAt 100 (minutesBut 100 100 (partOf 99 101 0)) (period 0 100)
+    -- 4, 7 and 9 name none, whatever the list
+    ∷ gives 4 unitW (inParts (partOf 16 30 20000 ∷ []) but ordinal 0)
+    ∷ gives 7 unitW (inParts (partOf 15 31 20000 ∷ []))
+    ∷ gives 9 unitW (inParts (partOf 15 45 100000000 ∷ []))
+    -- a list where none may be, however it is broken
+    ∷ gives 8 unitW (partedStop 16 30)
+    ∷ gives 8 (unitW ++ slotOf (positive 20000)) (inParts (partOf 16 30 20000 ∷ []) but operation 3 but ordinal 2)
     ∷ []
 
 -- 9. "Is each part's power, left by 4, 0 to 99,999,999?"

@@ -3,7 +3,7 @@ use mathlib.Core.List.{List, [], _∷_, _++_}
 use mathlib.Core.Bool.{Bool}
 use Rattle.rules.specs.Codes.{positiveDerating, executed, R}
 use Rattle.rules.specs.Samples.{partOf, _but_, direction, mark, ordinal, identifier, stamp, created, levelled, plannedStop, begunStop, eventAt, slotOf}
-use Rattle.rules.specs.Boundaries.Tests.{unitW, row, positive, forced, held, changed, withdrawn, gives}
+use Rattle.rules.specs.Boundaries.Tests.{unitW, row, positive, forced, held, changed, withdrawn, gives, names}
 use Rattle.rules.specs.Boundaries.Limits.{crowded}
 
 abbrev pub firstNo : List Bool
@@ -13,7 +13,7 @@ firstNo =
     ∷ gives 5 unitW (plannedStop 1 30 30 but direction 2)
     ∷ gives 6 unitW (plannedStop 1 31 31)
     ∷ gives 7 unitW (created positiveDerating 15 31 [])
-    ∷ gives 8 unitW (created positiveDerating 15 45 (partOf 15 30 100000000 ∷ []))
+    ∷ names 1 unitW (created positiveDerating 15 45 (partOf 15 30 100000000 ∷ []))
     ∷ gives 9 unitW (positive 100000000 but stamp 9)
     -- 10 and 11, 10 and 12, 11 and 15, 12 and 15
     ∷ gives 10 (unitW ++ slotOf (positive 20000)) (positive 20000 but stamp 9)

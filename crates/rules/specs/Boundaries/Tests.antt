@@ -96,9 +96,12 @@ sameBytes [] found = all (λ n. eqb n 0) found
 sameBytes (e ∷ es) [] = false
 sameBytes (e ∷ es) (f ∷ fs) = eqb e f && sameBytes es fs
 
--- the page answers the report with n; with 0 and these warnings
+-- the page answers the report with n, and no part is named; with 8, and this part is named; with 0 and these warnings
 abbrev pub gives : ℕ → List ℕ → List ℕ → Bool
-gives n page s = eqb (judge page s .answer .number) n
+gives n page s = eqb (judge page s .answer .number) n && eqb (judge page s .answer .part) 0
+
+abbrev pub names : ℕ → List ℕ → List ℕ → Bool
+names part page s = eqb (judge page s .answer .number) 8 && eqb (judge page s .answer .part) part
 
 abbrev pub warns : ℕ → List ℕ → List ℕ → Bool
 warns n page s = eqb (judge page s .answer .number) 0 && eqb (judge page s .answer .warnings) n

@@ -6,7 +6,7 @@ use Rattle.validation.proofs.validate.Tie as tie
 
 returns : tie.Need-returns
 returns c = validated (c .before .before .before .before .args .unit) _ _ (c .before .before .range-of .ensures)
-    (c .before .ask-parts .ensures) (c .validation-number .ensures)
+    (c .before .ask-parts .ensures) (c .validation-refusal .ensures)
 
 pub validate-spec : {M : Type 1} → statement M
 validate-spec =
