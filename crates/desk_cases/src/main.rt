@@ -1,5 +1,7 @@
-// The reports of paper 01 that no theorem has and the bench findings, run on the proved desk.
-use libc::STDOUT_FILENO;
+// The reports of paper 01 that no theorem has, the bench findings, and the parts that paper 02 has named, run on the proved desk.
+mod cover;
+mod words;
+
 use rules::Answer;
 use sent_reports::D;
 use sent_reports::Sent;
@@ -9,6 +11,8 @@ use sent_reports::derating_over;
 use sent_reports::event;
 use sent_reports::forced;
 use sent_reports::fresh;
+use words::say;
+use words::say_answer;
 ghost use mathlib.Core.Path.{_≡_};
 ghost use Prim.Native.Nat.{_≤_};
 ghost use lib.ListN.{length, take};
@@ -26,27 +30,7 @@ fn run(register: &mut [u8], report: &mut [u8])
 {
     without_star(register, report);
     bench_findings(register, report);
-}
-
-fn say(words: &[u8]) {
-    io::write_all(STDOUT_FILENO, words);
-}
-
-fn say_number(n: u8) {
-    io::print_decimal(STDOUT_FILENO, n as u64);
-}
-
-fn say_answer(a: Answer) {
-    if a.number != 0 {
-        say(b": refused with ");
-        say_number(a.number);
-    } else if a.warnings != 0 {
-        say(b": accepted with warning ");
-        say_number(a.warnings);
-    } else {
-        say(b": accepted");
-    }
-    say(b"\n");
+    cover::which_part(register, report);
 }
 
 // The desk's answer to the bytes that are then in the report.

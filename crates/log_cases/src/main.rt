@@ -222,6 +222,14 @@ fn columns(register: &mut [u8], report: &mut [u8], text: &mut [u8])
         b"a unit number that no one has",
     );
     changed(register, report, text, 34, 402, b"a stamp after 2049");
+    changed(
+        register,
+        report,
+        text,
+        52,
+        0xF8BD,
+        b"a part that starts a minute late",
+    );
 }
 
 // One report, sent again and again: accepted once.

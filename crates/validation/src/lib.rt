@@ -150,10 +150,7 @@ fn refusal_with(number: u8, cover: Cover) -> Refusal
             part: cover.part,
         }
     } else {
-        Refusal {
-            number,
-            part: 0,
-        }
+        Refusal { number, part: 0 }
     }
 }
 
