@@ -11,7 +11,12 @@ returns c = refuses _ _ (c .before .before .decide .ensures) (c .if1 .taken)
 
 returns-2 : tie.Need-returns-2
 returns-2 c =
-    accepts _ _ (c .before .before .before .before .before .before .before .before .before .before .decide .ensures) (ok-size _ _ (c .before .before .before .before .before .before .before .before .before .before .before .before .before .before .pre .0)) (block-free _ _ (c .before .before .before .before .before .before .before .before .before .before .before .before .before .before .pre .0)) (c .before .before .before .before .before .before .before .before .before .before .before .before .before .before .pre .1) (c .before .before .before .before .before .before .before .before .if1 .left) (c .before .before .before .before .before .apply .ensures) (c .before .head-of .ensures) (c .warnings-on .ensures)
+    let at-apply = c .before .before .before .before .before in
+    let at-if1 = at-apply .before .before .before in
+    let at-decide = at-if1 .before .before in
+    let at-pre = at-decide .before .before .before .before in
+    accepts _ _ (at-decide .decide .ensures) (ok-size _ _ (at-pre .pre .0)) (block-free _ _ (at-pre .pre .0)) (at-pre .pre .1)
+    (at-if1 .if1 .left) (at-apply .apply .ensures) (c .before .head-of .ensures) (c .warnings-on .ensures)
 
 pub judge-block-spec : {M : Type 1} → statement M
 judge-block-spec =
