@@ -2,8 +2,10 @@
 use Prim.Native.Nat.{ℕ}
 use mathlib.Core.Path.{_≡_}
 use mathlib.Core.List.{List}
-use lib.Dec.{eqb}
+use lib.Dec.{ltb, eqb}
+use lib.IntN.{pos}
 use Rattle.fields.specs.Lists.{pick, all}
+use Rattle.quantities.specs.declared.Kilowatt.{Kilowatt}
 use Rattle.quantities.specs.declared.Minute.{Minute}
 use Rattle.report.specs.declared.Cover.{Cover}
 use Rattle.report.specs.declared.Head.{Head}
@@ -16,6 +18,16 @@ use Rattle.rules.specs.Judge.{validationNumber, partBeside}
 use Rattle.validation.specs.declared.PartAnswers.{PartAnswers}
 use Rattle.validation.specs.declared.Refusal.{Refusal}
 use Rattle.validation.specs.declared.Validated.{Validated}
+
+unfoldable pub largerOf : Kilowatt → Kilowatt → Kilowatt
+largerOf p q = pick (ltb (p .0) (q .0)) q p
+
+-- question 16 reads of a part the size of its power alone
+abbrev pub partOfSize : Kilowatt → Part
+partOfSize size = record {
+  period = record { start = record { 0 = 0 }; end = record { 0 = 0 } };
+  power = record { 0 = pos (size .0) };
+}
 
 unfoldable pub answersOf : List Part → Minute → PowerRange → ℕ → PartAnswers
 answersOf ps stamp range type = record {

@@ -1,4 +1,5 @@
 // Questions 4 to 9 and 16: what is asked of a report and its unit's kind and powers.
+use quantities::Kilowatt;
 use quantities::Minute;
 use records::CREATE;
 use records::EVENT;
@@ -21,7 +22,7 @@ ghost use mathlib.Core.List.{[]};
 ghost use Rattle.report.specs.Report.{partsOf};
 ghost use Rattle.rules.specs.Records.{partTimes, begun};
 ghost use Rattle.rules.specs.Questions.{recordBy, quarterHour, partOnQuarter, deratingFits, question4, question6, question8, question16};
-ghost use Rattle.validation.specs.Parts.{answersOf, PartsAsked, refusalWith, validationRefusal, validatedOf};
+ghost use Rattle.validation.specs.Parts.{largerOf, partOfSize, answersOf, PartsAsked, refusalWith, validationRefusal, validatedOf};
 
 // What is asked of each part: its times (question 4), its end on a quarter hour (7), its power (9), its derating (16).
 pub struct PartAnswers {
@@ -62,17 +63,23 @@ fn part_is_on_quarter(p: Part, stamp: Minute) -> bool
     (p.period.end.0 <= stamp.0) | is_quarter_hour(p.period.end)
 }
 
-fn derating_fits(range: PowerRange, record_type: u8, p: Part) -> bool
-    ensures { λ r. ⌜ r ≡ deratingFits range «record_type» p ⌝ }
+fn larger(p: Kilowatt, q: Kilowatt) -> Kilowatt
+    ensures { λ r. ⌜ r ≡ largerOf p q ⌝ }
 {
-    let power = quantities::wide(quantities::size_of(p.power));
+    if p.0 < q.0 { q } else { p }
+}
+
+fn derating_fits(range: PowerRange, record_type: u8, size: Kilowatt) -> bool
+    ensures { λ r. ⌜ r ≡ deratingFits range «record_type» (partOfSize size) ⌝ }
+{
+    let power = quantities::wide(size);
     let max = quantities::wide(range.max);
     let min = quantities::wide(range.min);
     (!(record_type == POSITIVE_DERATING) | (power <= max))
         & (!(record_type == NEGATIVE_DERATING) | (power + min <= max))
 }
 
-// One pass over the parts.
+// One pass over the parts. Each derating fits if the largest does.
 fn ask_parts(report: &[u8], stamp: Minute, range: PowerRange, record_type: u8) -> PartAnswers
     ensures { λ r. ⌜ r ≡ answersOf (partsOf (now (report .entry))) stamp range «record_type» ⌝ }
 {
@@ -80,14 +87,15 @@ fn ask_parts(report: &[u8], stamp: Minute, range: PowerRange, record_type: u8) -
     let mut times = true;
     let mut on_quarters = true;
     let mut powers = true;
-    let mut deratings = true;
+    let mut largest = Kilowatt(0);
     for i in 0..k {
         let p = report::part_at(report, i);
         times = times & part_is_times(p);
         on_quarters = on_quarters & part_is_on_quarter(p, stamp);
         powers = powers & quantities::is_signed_power(p.power);
-        deratings = deratings & derating_fits(range, record_type, p);
+        largest = larger(largest, quantities::size_of(p.power));
     }
+    let deratings = (k == 0) | derating_fits(range, record_type, largest);
     PartAnswers {
         times,
         on_quarters,
