@@ -1,5 +1,5 @@
 #!/usr/bin/env bash
-# The C interface: what the header declares, what the library holds, and the example in C and in C++.
+# The C interface: what the header declares, what the library holds, the example in C and in C++, and the stack that a call takes.
 # DESK_LIB_DIR names another folder with a libdesk.a.
 set -u
 cd "$(dirname "$0")/.." || exit 1
@@ -41,9 +41,17 @@ runs() {
   told "the example of $* prints something else" diff "$example.out" "$room/out"
 }
 
+# a call takes less stack than the header says
+stack() {
+  told 'tests/stack_depth.c fails' \
+    gcc -std=gnu99 -Wall -Wextra -Werror -pedantic -Iinclude tests/stack_depth.c "$library" -o "$room/stack_depth"
+  told 'a call takes more stack than promised' "$room/stack_depth"
+}
+
 told 'the header declares something else than the crates' python3 tests/c_declarations.py
 need_library
 symbols
 runs gcc -std=c99 -x c
 runs g++ -std=c++11 -x c++
+stack
 exit "$failed"

@@ -44,7 +44,8 @@ def defined():
 
 def readings_resolve():
     rows = re.findall(r"^\| (\d+) \|.*\| ([^|]*) \|$", text_of("docs/READINGS.md"), re.MULTILINE)
-    told("READINGS.md: not 1 to 87", [int(number) for number, _ in rows] == list(range(1, 88)))
+    numbers = [int(number) for number, _ in rows]
+    told("READINGS.md: not numbered on from 1", len(rows) >= 93 and numbers == list(range(1, len(rows) + 1)))
     known = defined()
     for number, where in rows:
         names = re.findall(r"`(\w+)`", where)
