@@ -14,7 +14,15 @@ returns c =
     let at-put-unit = at-put-number2 .before .before .before .before .before in
     let at-put-number = at-put-unit .before .before .before .before in
     let at-line-head = at-put-number .before .before in (
-      omega arith,
+      omega (
+        arith,
+        at-put-number .put-number .ensures .0,
+        at-put-unit .put-unit .ensures .0,
+        at-put-number2 .put-number2 .ensures .0,
+        at-put-number3 .put-number3 .ensures .0,
+        at-put-number4 .put-number4 .ensures .0,
+        c .before .before .put-stamp .ensures .0,
+      ),
       line-text-put _ _ _ _ _ _ _ _ _ _ _ _ _ _ _ _ _ _ (ap (λ (h : LineHead). h .unit) (at-line-head .line-head .ensures))
           (ap (λ (h : LineHead). h .stamp) (at-line-head .line-head .ensures)) (at-put-number .put-number .ensures .1)
           (at-put-unit .put-unit .ensures .1) (at-put-number2 .put-number2 .ensures .1) (at-put-number3 .put-number3 .ensures .1)
