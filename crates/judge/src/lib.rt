@@ -50,8 +50,8 @@ pub struct Survey {
     pub cleared: [bool; 8],
 }
 
-// The number of the first "no", or 0, and beside 8 the part that breaks cover; then the slots that are cleared, the slot that is written (8: none), whether the state
-// changes, and whether some record leaves.
+// The number of the first "no", or 0, and beside 8 the part that breaks cover; then the slots that are cleared, the slot that is
+// written (8: none), whether the state changes, and whether some record leaves.
 pub struct Decision {
     pub number: u8,
     pub part: u16,
