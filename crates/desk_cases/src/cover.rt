@@ -1,6 +1,7 @@
 // 02, A1: which part breaks cover. Deratings in parts of a quarter of an hour from D+60 on, each on fresh roster A.
 use crate::words::say;
 use crate::words::say_answer;
+use crate::words::say_number;
 use records::STOP;
 use records::WITHDRAW;
 use report::PART_SIZE;
@@ -9,285 +10,182 @@ use sent_reports::D;
 use sent_reports::derating_over;
 use sent_reports::fresh;
 ghost use mathlib.Core.Path.{_≡_};
-ghost use Prim.Native.Nat.{_+_, _*_, _≤_};
-ghost use lib.ListN.{length};
+ghost use Prim.Native.Nat.{_+_, _*_};
 
 // Where a part has its start and its end.
-const BEGINS: usize = 4;
+const START: usize = 4;
 
-const ENDS: usize = 8;
+const END: usize = 8;
 
-pub(crate) fn which_part(register: &mut [u8], report: &mut [u8])
-    requires { ⌜ length (now report) ≡ 1850 ⌝ }
-{
+// A part's number, from 1, in a list of so many.
+struct Place {
+    number: u16,
+    count: u16,
+}
+
+pub(crate) fn which_part(register: &mut [u8], report: &mut [u8]) {
     say(b"\nWhich part breaks cover: parts of a quarter of an hour from D+60 on\n");
-    ninety_parts(register, report);
-    first_of_a_hundred(register, report);
-    last_of_a_hundred(register, report);
+    altered_at(register, report, 57, 90);
+    altered_at(register, report, 1, 100);
+    altered_at(register, report, 100, 100);
+    told_elsewhere(register, report);
     other_periods(register, report);
     no_list(register, report);
 }
 
-// Where part i, from 0, begins.
-fn quarter_hour(i: u16) -> u32
-    ensures { λ r. ⌜ r ≡ 13760700 + 15 * i ⌝ }
+// Where so many parts end.
+fn end_of(parts: u16) -> u32
+    ensures { λ r. ⌜ r ≡ 13760700 + 15 * parts ⌝ }
 {
-    D + 60 + 15 * (i as u32)
+    D + 60 + 15 * (parts as u32)
 }
 
-fn put_part(report: &mut [u8], i: u16)
-    requires { ⌜ i ≤ 99 ⌝ }
+// Where a part lies in the report.
+fn place_of(number: u16) -> usize
+    ensures { λ r. ⌜ r ≡ 32 + 16 * number ⌝ }
 {
-    let at = PARTS_START + PART_SIZE * (i as usize);
-    fields::put_u16(report, at, 0x4B50);
-    fields::put_u16(report, at + 2, 0);
-    fields::put_u32(report, at + BEGINS, quarter_hour(i));
-    fields::put_u32(report, at + ENDS, quarter_hour(i + 1));
+    PARTS_START + PART_SIZE * (number as usize) - PART_SIZE
+}
+
+fn put_part(report: &mut [u8], number: u16) {
+    let at = place_of(number);
+    fields::put_u32(report, at, 0x4B50);
+    fields::put_u32(report, at + START, end_of(number) - 15);
+    fields::put_u32(report, at + END, end_of(number));
     fields::put_u32(report, at + 12, 20000);
 }
 
-fn put_parts(report: &mut [u8], count: u16)
-    requires { ⌜ count ≤ 100 ⌝ }
-{
+fn put_parts(report: &mut [u8], count: u16) {
     for i in 0..count {
-        put_part(report, i);
+        put_part(report, i + 1);
     }
 }
 
 // A derating of so many quarter hours, in as many parts; how many bytes it has.
-fn compose(report: &mut [u8], count: u16) -> usize
-    requires { ⌜ count ≤ 100 ⌝ }
-    ensures { λ r. ⌜ r ≤ 1650 ⌝ }
-{
-    let s = derating_over(1, D + 10, quarter_hour(0), quarter_hour(count));
+fn compose(report: &mut [u8], count: u16) -> usize {
+    let s = derating_over(1, D + 10, end_of(0), end_of(count));
     sent_reports::compose(report, s);
     fields::put_u16(report, 14, count);
     put_parts(report, count);
-    let end = PARTS_START + PART_SIZE * (count as usize) + 2;
+    let end = report::text_after(count);
     fields::put_u16(report, end - 2, 0x5854);
     end
 }
 
-fn judged(register: &mut [u8], report: &[u8], end: usize, words: &[u8])
-    requires { ⌜ end ≤ length (now report) ⌝ }
-{
-    fresh(register);
-    say(words);
-    say_answer(desk::answer_report(register, &report[..end]));
+fn judged(register: &mut [u8], report: &[u8], end: usize, words: &[u8]) {
+    if end <= report.len() {
+        fresh(register);
+        say(words);
+        say_answer(desk::answer_report(register, &report[..end]));
+    }
 }
 
-// One time of part `number`, from 1, is another.
-fn altered(
-    register: &mut [u8],
-    report: &mut [u8],
-    count: u16,
-    number: u16,
-    field: usize,
-    time: u32,
-    words: &[u8],
-)
-    requires { ⌜ (length (now report) ≡ 1850) × (count ≤ 100) × (1 ≤ number) × (field ≤ 8) ⌝ }
-{
-    let end = compose(report, count);
-    let at = PARTS_START + PART_SIZE * ((number - 1) as usize);
-    fields::put_u32(report, at + field, time);
+fn judged_by_part(register: &mut [u8], report: &[u8], end: usize, p: Place, words: &[u8]) {
+    say(b"part ");
+    say_number(p.number);
+    say(b" of ");
+    say_number(p.count);
     judged(register, report, end, words);
 }
 
+// A list with one part that starts as said.
+fn starts(register: &mut [u8], report: &mut [u8], p: Place, time: u32, words: &[u8]) {
+    let end = compose(report, p.count);
+    fields::put_u32(report, place_of(p.number) + START, time);
+    judged_by_part(register, report, end, p, words);
+}
+
+// A list with one part that ends as said.
+fn ends(register: &mut [u8], report: &mut [u8], p: Place, time: u32, words: &[u8]) {
+    let end = compose(report, p.count);
+    fields::put_u32(report, place_of(p.number) + END, time);
+    judged_by_part(register, report, end, p, words);
+}
+
+// A part as it should be, and each way in which it breaks cover itself.
+fn altered_at(register: &mut [u8], report: &mut [u8], number: u16, count: u16) {
+    let p = Place { number, count };
+    starts_elsewhere(register, report, p);
+    ends_elsewhere(register, report, p);
+}
+
+fn starts_elsewhere(register: &mut [u8], report: &mut [u8], p: Place) {
+    let due = end_of(p.number) - 15;
+    starts(register, report, p, due, b" starts where it is due");
+    starts(register, report, p, due + 1, b" starts a minute late");
+    starts(register, report, p, due - 1, b" starts a minute early");
+}
+
+fn ends_elsewhere(register: &mut [u8], report: &mut [u8], p: Place) {
+    let start = end_of(p.number) - 15;
+    let late = end_of(p.count) + 15;
+    ends(register, report, p, start, b" ends where it starts");
+    ends(register, report, p, start - 15, b" ends before it starts");
+    ends(register, report, p, late, b" ends after the period");
+}
+
+// An end within the period: the next part, or question 7, says so.
+fn told_elsewhere(register: &mut [u8], report: &mut [u8]) {
+    let p = Place {
+        number: 57,
+        count: 90,
+    };
+    let due = end_of(57);
+    ends(
+        register,
+        report,
+        p,
+        due + 15,
+        b" ends with the next one, which then overlaps it",
+    );
+    ends(
+        register,
+        report,
+        p,
+        due + 1,
+        b" ends a minute late, off the quarter hour",
+    );
+}
+
 // The report's period ends elsewhere.
-fn over(register: &mut [u8], report: &mut [u8], count: u16, period_end: u32, words: &[u8])
-    requires { ⌜ (length (now report) ≡ 1850) × (count ≤ 100) ⌝ }
-{
+fn over(register: &mut [u8], report: &mut [u8], count: u16, period_end: u32, words: &[u8]) {
     let end = compose(report, count);
     fields::put_u32(report, 40, period_end);
     judged(register, report, end, words);
 }
 
-fn ninety_parts(register: &mut [u8], report: &mut [u8])
-    requires { ⌜ length (now report) ≡ 1850 ⌝ }
-{
-    let end = compose(report, 90);
-    judged(register, report, end, b"ninety parts");
-    starts_of_the_57th(register, report);
-    ends_of_the_57th(register, report);
-    late_ends_of_the_57th(register, report);
-}
-
-fn starts_of_the_57th(register: &mut [u8], report: &mut [u8])
-    requires { ⌜ length (now report) ≡ 1850 ⌝ }
-{
-    let due = quarter_hour(56);
-    altered(
-        register,
-        report,
-        90,
-        57,
-        BEGINS,
-        due + 1,
-        b"  the 57th starts a minute late",
-    );
-    altered(
-        register,
-        report,
-        90,
-        57,
-        BEGINS,
-        due - 1,
-        b"  the 57th starts a minute early",
-    );
-}
-
-fn ends_of_the_57th(register: &mut [u8], report: &mut [u8])
-    requires { ⌜ length (now report) ≡ 1850 ⌝ }
-{
-    altered(
-        register,
-        report,
-        90,
-        57,
-        ENDS,
-        quarter_hour(56),
-        b"  the 57th ends where it starts",
-    );
-    altered(
-        register,
-        report,
-        90,
-        57,
-        ENDS,
-        quarter_hour(55),
-        b"  the 57th ends before it starts",
-    );
-}
-
-fn late_ends_of_the_57th(register: &mut [u8], report: &mut [u8])
-    requires { ⌜ length (now report) ≡ 1850 ⌝ }
-{
-    altered(
-        register,
-        report,
-        90,
-        57,
-        ENDS,
-        quarter_hour(58),
-        b"  the 57th ends with the 58th, which then overlaps it",
-    );
-    altered(
-        register,
-        report,
-        90,
-        57,
-        ENDS,
-        quarter_hour(91),
-        b"  the 57th ends after the period",
-    );
-    let off = quarter_hour(57) + 1;
-    altered(
-        register,
-        report,
-        90,
-        57,
-        ENDS,
-        off,
-        b"  the 57th ends a minute late, off the quarter hour",
-    );
-}
-
-fn first_of_a_hundred(register: &mut [u8], report: &mut [u8])
-    requires { ⌜ length (now report) ≡ 1850 ⌝ }
-{
-    let end = compose(report, 100);
-    judged(register, report, end, b"a hundred parts");
-    let late = quarter_hour(0) + 1;
-    altered(
-        register,
-        report,
-        100,
-        1,
-        BEGINS,
-        late,
-        b"  the first starts a minute late",
-    );
-    altered(
-        register,
-        report,
-        100,
-        1,
-        ENDS,
-        quarter_hour(101),
-        b"  the first ends after the period",
-    );
-}
-
-fn last_of_a_hundred(register: &mut [u8], report: &mut [u8])
-    requires { ⌜ length (now report) ≡ 1850 ⌝ }
-{
-    let early = quarter_hour(99) - 1;
-    altered(
-        register,
-        report,
-        100,
-        100,
-        BEGINS,
-        early,
-        b"  the hundredth starts a minute early",
-    );
-    altered(
-        register,
-        report,
-        100,
-        100,
-        ENDS,
-        quarter_hour(99),
-        b"  the hundredth ends where it starts",
-    );
-}
-
-fn other_periods(register: &mut [u8], report: &mut [u8])
-    requires { ⌜ length (now report) ≡ 1850 ⌝ }
-{
+fn other_periods(register: &mut [u8], report: &mut [u8]) {
+    let late = end_of(101);
     over(
         register,
         report,
         1,
-        quarter_hour(2),
+        late,
         b"one part, and the period is longer",
     );
     over(
         register,
         report,
         100,
-        quarter_hour(101),
+        late,
         b"a hundred parts, and the period is longer",
     );
+    let early = end_of(88);
     over(
         register,
         report,
         90,
-        quarter_hour(88),
+        early,
         b"ninety parts, and the period ends with the 88th",
     );
+    over(register, report, 0, late, b"a derating without parts");
 }
 
-fn no_list(register: &mut [u8], report: &mut [u8])
-    requires { ⌜ length (now report) ≡ 1850 ⌝ }
-{
-    over(
-        register,
-        report,
-        0,
-        quarter_hour(1),
-        b"a derating without parts",
-    );
+// Parts where none may be.
+fn no_list(register: &mut [u8], report: &mut [u8]) {
     let end = compose(report, 90);
     fields::put_u8(report, 7, WITHDRAW);
     judged(register, report, end, b"a withdrawal with ninety parts");
-    stop_with_parts(register, report);
-}
-
-fn stop_with_parts(register: &mut [u8], report: &mut [u8])
-    requires { ⌜ length (now report) ≡ 1850 ⌝ }
-{
     let end = compose(report, 90);
     fields::put_u8(report, 6, STOP);
     fields::put_u8(report, 11, 1);

@@ -6,7 +6,7 @@ pub(crate) fn say(words: &[u8]) {
     io::write_all(STDOUT_FILENO, words);
 }
 
-fn say_number(n: u16) {
+pub(crate) fn say_number(n: u16) {
     io::print_decimal(STDOUT_FILENO, n as u64);
 }
 

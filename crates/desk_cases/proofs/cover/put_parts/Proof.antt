@@ -1,4 +1,4 @@
-use Prim.Native.Nat.{_-_, _≤_}
+use Prim.Native.Nat.{_-_}
 use mathlib.Core.Path.{_≡_}
 use native.Mathlib.Omega.{arith}
 use borrow.Author.Needs.{needs}
@@ -7,7 +7,7 @@ use Rattle.desk_cases.proofs.cover.put_parts.Statement.{statement}
 use Rattle.desk_cases.proofs.cover.put_parts.Tie as tie
 
 abbrev Inv-loop : tie.InvT-loop
-Inv-loop report₀ count i₀ report i = (i ≤ count) × (length report ≡ length report₀)
+Inv-loop report₀ count i₀ report i = length report ≡ length report₀
 
 abbrev μ-loop : tie.MeasureT-loop
 μ-loop report₀ count i₀ report i = count - i
@@ -19,7 +19,8 @@ put-parts-spec =
     Inv-loop
     μ-loop
     (λ c. omega arith)
-    (λ c κs. omega arith)
+    (λ c. omega arith)
+    (λ c κs. search needs)
     (λ c. omega arith)
     (λ c. omega arith)
     (λ c. omega arith)
