@@ -104,5 +104,12 @@ int main(void)
     failed |= measured("a derating of 1 part", 0, 0);
     compose(4, 100);
     failed |= measured("forced work of 100 parts beside it", 0, 0);
+    set_up();
+    compose(2, 2);
+    put32(report + 64 + 12, 60000);
+    failed |= measured("a derating that steps up", 0, 0);
+    compose(4, 2);
+    put32(report + 48 + 12, 199000);
+    failed |= measured("forced work that fits in each minute, not beside the highest derating", 0, 0);
     return failed;
 }
