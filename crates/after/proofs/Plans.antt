@@ -17,7 +17,7 @@ use Rattle.rules.specs.declared.Row.{Row}
 use Rattle.rules.specs.Block.{headSize, slotSize, slotCount, blockSize, zeros, unitHead, slotAt, used}
 use Rattle.rules.specs.Codes.{W1, create, change, withdraw}
 use Rattle.rules.specs.Records.{begun, holdsState}
-use Rattle.rules.specs.Questions.{recordOf, isEvent, isWithdrawal, isOperation, stampOf, heldRecord, begins, changesState, hasTransition, live, stays, question18}
+use Rattle.rules.specs.Questions.{recordOf, isEvent, isWithdrawal, isOperation, stampOf, heldRecord, begins, changesState, hasTransition, live, stays}
 use Rattle.rules.specs.After.{rowAfter, headAfter, slotBytes, slotWritten, cleared, slotAfter, blockAfter}
 use Rattle.rules.specs.Judge.{refusalNumber}
 use Rattle.rules.proofs.Afterwards.{event-creates}

@@ -1,7 +1,7 @@
 -- A slot that is written by puts over zeros. Assumes nothing.
 use Prim.Native.Nat.{ℕ, zero, suc, _+_, _*_, _-_, _≤_}
 use mathlib.Core.Path.{_≡_, refl, ap, sym, _∙_}
-use mathlib.Core.Bool.{Bool, true, false, not}
+use mathlib.Core.Bool.{Bool, true, false}
 use mathlib.Core.List.{List, [], _∷_, _++_, append-assoc, append-nil}
 use native.Mathlib.Omega.{arith}
 use native.Mathlib.Nat.{zero-add}
@@ -10,10 +10,7 @@ use lib.Seq.{sets-eq, take-at, drop-at, drop-drop}
 use Rattle.fields.specs.Fields.{u8At, bytesOf}
 use Rattle.fields.specs.Lists.{pick, series, put}
 use Rattle.fields.proofs.Slices.{put-append, series-snoc}
-use Rattle.fields.proofs.Numbers.{bytes-length}
 use Rattle.fields.proofs.Tests.{series-length}
-use Rattle.quantities.specs.declared.Kilowatt.{Kilowatt}
-use Rattle.quantities.specs.Quantities.{sizeOf}
 use Rattle.report.specs.declared.Head.{Head}
 use Rattle.report.specs.declared.Part.{Part}
 use Rattle.report.specs.declared.PartLevel.{PartLevel}
@@ -21,7 +18,7 @@ use Rattle.report.specs.Report.{mostParts, headOf, partAt, partsOf, partCount, 
 use Rattle.rules.specs.declared.Record.{Record}
 use Rattle.rules.specs.declared.Row.{Row}
 use Rattle.rules.specs.declared.UnitHead.{UnitHead}
-use Rattle.rules.specs.Block.{pairsStart, pairSize, pairStart, unitHead, slotMark, slotSize, zeros}
+use Rattle.rules.specs.Block.{pairsStart, pairSize, pairStart, unitHead, slotSize, zeros}
 use Rattle.rules.specs.Questions.{recordOf, kilowatts, recordBy}
 use Rattle.rules.specs.After.{pairBytes, slotBytes, putRow}
 use Rattle.rules.proofs.Slots.{pairs-length}

@@ -1,18 +1,16 @@
 -- What is decided of a block before it is written, and the block that this gives.
 use Prim.Native.Nat.{ℕ, _<_}
 use mathlib.Core.Path.{_≡_}
-use mathlib.Core.List.{List, [], _∷_, _++_}
+use mathlib.Core.List.{List, _++_}
 use mathlib.Core.Bool.{Bool, false, _&&_}
 use lib.Dec.{leb, eqb}
 use lib.ListN.{length, getD}
 use Rattle.fields.specs.Fields.{bytesOf}
 use Rattle.fields.specs.Lists.{pick, joined, part, put}
-use Rattle.report.specs.declared.Head.{Head}
-use Rattle.report.specs.declared.Part.{Part}
 use Rattle.report.specs.Report.{mostParts, headOf, partsOf, partCount}
 use Rattle.rules.specs.declared.Row.{Row}
-use Rattle.rules.specs.Block.{headSize, slotSize, slotCount, blockSize, slotMark, zeros, unitHead, slotAt, used}
-use Rattle.rules.specs.Questions.{recordOf, stampOf, kilowatts}
+use Rattle.rules.specs.Block.{headSize, slotSize, slotCount, blockSize, zeros, unitHead, slotAt, used}
+use Rattle.rules.specs.Questions.{recordOf, stampOf}
 use Rattle.rules.specs.After.{putRow, slotBytes}
 use Rattle.row.specs.Step.{rowStepped}
 use Rattle.after.specs.declared.Plan.{Plan}

@@ -1,11 +1,10 @@
 -- The first report of an input, and those after it. Assumes nothing.
-use Prim.Native.Nat.{ℕ, zero, suc, _+_, _*_, _-_, _≤_, _<_}
+use Prim.Native.Nat.{ℕ, zero, suc, _+_, _-_, _≤_, _<_}
 use mathlib.Core.Path.{_≡_, refl, ap, sym, _∙_}
-use mathlib.Core.Bool.{Bool, true, false, not, _&&_, _||_}
+use mathlib.Core.Bool.{Bool, true, false}
 use mathlib.Core.List.{List, [], _∷_, _++_, append-nil}
 use native.Mathlib.Nat.{zero-add}
 use native.Mathlib.Omega.{arith}
-use lib.Dec.{leb, eqb}
 use lib.ListN.{length, set, take, drop, length-drop, drop-of-length-le}
 use lib.Seq.{sets, length-take-le, take-all}
 use borrow.Author.Tests.{le-leb, lt-leb}
@@ -14,7 +13,7 @@ use Rattle.fields.proofs.Slices.{put-length, put-nothing, put-past, put-append}
 use Rattle.rules.specs.Desk.{answerTo, registerAfter}
 use Rattle.log.specs.declared.Progress.{Progress}
 use Rattle.log.specs.declared.Logged.{Logged}
-use Rattle.log.specs.Run.{statedLength, progressAfter, nextLine, loggedAfter}
+use Rattle.log.specs.Run.{statedLength, nextLine, loggedAfter}
 use Rattle.batch.specs.declared.Batch.{Batch}
 use Rattle.batch.specs.Batch.{reportHere, firstLength, firstReport, endsRun, reportsHere, batchLines, noReports, before, batchOf}
 

@@ -1,11 +1,11 @@
 -- Reports are the same however their input is cut. Assumes nothing.
-use Prim.Native.Nat.{ℕ, zero, suc, _+_, _*_, _-_, _≤_, _<_, min}
-use mathlib.Core.Path.{_≡_, refl, ap, sym, _∙_}
-use mathlib.Core.Bool.{Bool, true, false, not, _&&_, _||_}
+use Prim.Native.Nat.{ℕ, zero, suc, _+_, _-_, _≤_, min}
+use mathlib.Core.Path.{_≡_, refl, sym}
+use mathlib.Core.Bool.{Bool, true, false}
 use mathlib.Core.List.{List, [], _∷_, _++_}
 use native.Mathlib.Nat.{zero-add}
 use native.Mathlib.Omega.{arith}
-use lib.Dec.{leb, eqb}
+use lib.Dec.{leb}
 use lib.ListN.{length, take, drop, length-take}
 use lib.Seq.{drop-drop, take-take, take-nil, length-take-le}
 use borrow.Author.Tests.{le-leb, leb-true}
@@ -13,7 +13,7 @@ use Rattle.fields.specs.Fields.{u16At}
 use Rattle.fields.specs.Lists.{pick, part}
 use Rattle.fields.proofs.Bools.{pick-elim}
 use Rattle.fields.proofs.Numbers.{uint-same}
-use Rattle.fields.proofs.Slices.{Same, same-part}
+use Rattle.fields.proofs.Slices.{same-part}
 use Rattle.rules.specs.Desk.{answerTo, registerAfter}
 use Rattle.log.specs.Run.{statedLength}
 use Rattle.batch.specs.Batch.{reportHere, firstLength, firstReport, endsRun, reportsHere, bytesIn, runEnds, afterCut}

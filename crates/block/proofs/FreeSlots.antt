@@ -1,14 +1,14 @@
 -- Zeros read as one number of all their bits, and free slots as one stretch of zeros. Assumes nothing.
 use Prim.Native.Nat.{ℕ, zero, suc, _+_, _*_, _-_, _≤_, _<_}
 use mathlib.Core.Path.{_≡_, refl, ap, sym, _∙_}
-use mathlib.Core.Bool.{Bool, true, false, not, _&&_, _||_, and-true}
-use mathlib.Core.List.{List, [], _∷_, _++_}
+use mathlib.Core.Bool.{Bool, true, false, _&&_}
+use mathlib.Core.List.{List, _++_}
 use mathlib.Core.Logic.{⊎-elim}
 use native.Mathlib.Omega.{arith}
-use lib.Bits.{bitOr, or-zero-l, or-add-and, and-le-l, and-le-r}
+use lib.Bits.{bitOr, or-zero-l, or-add-and, and-le-r}
 use lib.Dec.{eqb}
 use lib.ListN.{length}
-use borrow.Author.Tests.{eqb-true, eqb-false, eq-eqb, ne-eqb}
+use borrow.Author.Tests.{eqb-true, eqb-false, ne-eqb}
 use Rattle.fields.specs.Fields.{u8At}
 use Rattle.fields.specs.Lists.{pick, all, series}
 use Rattle.fields.proofs.Bools.{lt-or-le}
@@ -17,7 +17,7 @@ use Rattle.quantities.specs.declared.Minute.{Minute}
 use Rattle.rules.specs.Block.{headSize, slotSize, slotCount, blockSize, zerosAt, slotAt, used}
 use Rattle.rules.specs.Whole.{slotWhole, slotsApart}
 use Rattle.block.specs.Slot.{FreeFrom}
-use Rattle.block.proofs.Cut.{both-ways, zeros-part}
+use Rattle.block.proofs.Cut.{zeros-part}
 use Rattle.block.proofs.Turns.{slot-long}
 
 -- two numbers have no bit together exactly if neither has one

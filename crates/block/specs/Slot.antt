@@ -1,5 +1,5 @@
 -- Question 1 of a used slot, as one pass over its pairs asks it: proofs/Pairs.antt shows that it is what paper 01 asks.
-use Prim.Native.Nat.{ℕ, zero, suc, _+_, _*_, _≤_, _<_}
+use Prim.Native.Nat.{ℕ, zero, suc, _+_, _≤_, _<_}
 use mathlib.Core.Path.{_≡_}
 use mathlib.Core.List.{List, [], _∷_}
 use mathlib.Core.Bool.{Bool, false, not, _&&_, _||_}

@@ -1,12 +1,11 @@
 -- The answer on each way through the questions. Assumes nothing.
-use Prim.Native.Nat.{ℕ, suc, _+_, _*_, _-_, _/_, _≤_, _<_}
+use Prim.Native.Nat.{ℕ, _+_, _*_, _-_, _/_, _≤_}
 use mathlib.Core.Path.{_≡_, refl, ap, sym, _∙_}
-use mathlib.Core.Bool.{Bool, true, false, not, _&&_, _||_}
+use mathlib.Core.Bool.{Bool, true, false, not, _&&_}
 use mathlib.Core.List.{List, _++_}
 use native.Mathlib.Omega.{arith}
-use lib.Dec.{leb, ltb, eqb}
-use lib.ListN.{length, take, drop, length-drop}
-use lib.Seq.{length-take-le}
+use lib.Dec.{leb, eqb}
+use lib.ListN.{length, take, drop}
 use borrow.Author.Tests.{eqb-true, eq-eqb, ne-eqb, not-true, not-false}
 use Rattle.fields.specs.Lists.{pick, and-each, every, part, series}
 use Rattle.fields.proofs.Bools.{passed-over, every-true, range-true}
@@ -15,7 +14,7 @@ use Rattle.report.specs.declared.Head.{Head}
 use Rattle.report.specs.Report.{mostParts, headOf, partCount, partsOf, whole}
 use Rattle.rules.specs.declared.Answer.{Answer}
 use Rattle.rules.specs.After.{slotWritten, cleared, blockAfter, someSlot, warnings}
-use Rattle.rules.specs.Questions.{changesState, leaves, stays}
+use Rattle.rules.specs.Questions.{changesState, leaves}
 use Rattle.rules.specs.Judge.{Verdict, refusal, partBeside, refusalNumber, judge}
 use Rattle.rules.specs.declared.UnitHead.{UnitHead}
 use Rattle.rules.specs.Block.{slotCount, blockSize, unitHead}
@@ -25,7 +24,6 @@ use Rattle.judge.specs.declared.Decision.{Decision}
 use Rattle.judge.specs.Decided.{refusedDecision, decisionOf}
 use Rattle.judge.specs.Warned.{warningsOn}
 use Rattle.judge.proofs.Warnings.{warnings-same}
-use Rattle.after.specs.declared.Plan.{Plan}
 use Rattle.after.specs.Plan.{FreeSlots, planApplied}
 use Rattle.after.proofs.Plans.{plan-after}
 

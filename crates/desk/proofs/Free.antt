@@ -1,16 +1,15 @@
 -- The free slots of a block of a whole register are zeros. Assumes nothing.
-use Prim.Native.Nat.{ℕ, _+_, _*_, _-_, _/_, _≤_, _<_}
-use mathlib.Core.Path.{_≡_, ap, sym, _∙_, subst}
+use Prim.Native.Nat.{ℕ, _*_, _-_, _/_, _<_}
+use mathlib.Core.Path.{_≡_, sym, _∙_, subst}
 use mathlib.Core.Bool.{Bool, true, false, not}
 use mathlib.Core.List.{List}
 use native.Mathlib.Omega.{arith}
-use native.Mathlib.Nat.{zero-add}
 use lib.Dec.{eqb}
-use lib.ListN.{length, getD, getD-replicate}
+use lib.ListN.{length, getD-replicate}
 use lib.Seq.{ext-getD}
 use borrow.Author.Tests.{eqb-true, not-false}
 use Rattle.fields.specs.Fields.{u8At}
-use Rattle.fields.specs.Lists.{pick, series}
+use Rattle.fields.specs.Lists.{pick}
 use Rattle.fields.proofs.Bools.{every-true}
 use Rattle.fields.proofs.Slices.{part-lent}
 use Rattle.fields.proofs.Tests.{all-at}

@@ -1,11 +1,11 @@
 -- What is decided of decoded values is what paper 01 decides of the block and the report. Assumes nothing.
-use Prim.Native.Nat.{ℕ, zero, suc, _+_, _≤_, _<_}
+use Prim.Native.Nat.{ℕ, zero, suc, _+_, _<_}
 use mathlib.Core.Path.{_≡_, refl, ap, sym, _∙_}
 use mathlib.Core.Bool.{Bool, true, false, not, _&&_, _||_}
-use mathlib.Core.List.{List, [], _∷_}
+use mathlib.Core.List.{List, _∷_}
 use native.Mathlib.Omega.{arith}
 use native.Mathlib.Nat.{zero-add}
-use lib.Dec.{leb, ltb, eqb}
+use lib.Dec.{ltb, eqb}
 use lib.ListN.{getD}
 use borrow.Author.Tests.{eq-eqb, ne-eqb}
 use Rattle.fields.specs.Lists.{pick, all, series, seek}
@@ -18,7 +18,7 @@ use Rattle.report.specs.Report.{headOf, partsOf}
 use Rattle.rules.specs.declared.Record.{Record}
 use Rattle.rules.specs.declared.UnitHead.{UnitHead}
 use Rattle.rules.specs.Block.{slotCount, unitHead}
-use Rattle.rules.specs.Questions.{creationHead, recordBy, recordOf, recordAt, holder, heldRecord, other, leaves, stays, freeSlot, changesBy, changesState, hasTransition, question15, question16, question18, question19}
+use Rattle.rules.specs.Questions.{creationHead, recordBy, recordAt, holder, heldRecord, other, leaves, stays, freeSlot, changesBy, changesState, hasTransition, question15, question16}
 use Rattle.rules.specs.Minutes.{FullRecord, reportedRecords, question17}
 use Rattle.rules.specs.After.{slotWritten, cleared, someSlot}
 use Rattle.rules.specs.Judge.{skips, partBeside, validationNumber, heldNumber, limitNumber, refusalNumber}

@@ -1,19 +1,18 @@
 -- What the code joins is what the definitions join: each law takes what the callees ensure. Assumes nothing.
 use Prim.Native.Nat.{ℕ, zero, suc, _+_, _-_, _≤_, _<_}
 use mathlib.Core.Path.{_≡_, refl, ap, sym, _∙_}
-use mathlib.Core.Bool.{Bool, true, false, not, _&&_, _||_}
-use mathlib.Core.List.{List, [], _∷_}
+use mathlib.Core.Bool.{Bool, true, false, not, _&&_}
+use mathlib.Core.List.{List}
 use native.Mathlib.Omega.{arith}
 use native.Mathlib.Nat.{zero-add}
 use lib.ListN.{length, getD, set, take, replicate, length-set}
-use lib.Dec.{leb, ltb, eqb}
-use Rattle.fields.specs.Lists.{pick, all, series, seek}
+use lib.Dec.{ltb}
+use Rattle.fields.specs.Lists.{series, seek}
 use borrow.Author.Tests.{not-true, not-false}
 use Rattle.fields.proofs.Slices.{filled-none, filled-more, filled-all}
 use Rattle.fields.proofs.Tests.{Tested, tested-none, tested-more, tested-all, seek-hit, seek-miss, seek-end}
 use Rattle.report.specs.declared.Head.{Head}
 use Rattle.rules.specs.declared.PowerRange.{PowerRange}
-use Rattle.rules.specs.declared.Powers.{Powers}
 use Rattle.rules.specs.declared.Record.{Record}
 use Rattle.rules.specs.declared.UnitHead.{UnitHead}
 use Rattle.rules.specs.Codes.{isLevelled}

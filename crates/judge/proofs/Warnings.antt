@@ -1,15 +1,14 @@
 -- The warnings from what the code finds. Assumes nothing.
-use Prim.Native.Nat.{ℕ, _+_, _≤_, _<_}
-use mathlib.Core.Path.{_≡_, refl, ap, sym, _∙_}
+use Prim.Native.Nat.{ℕ, _+_}
+use mathlib.Core.Path.{_≡_, ap, sym, _∙_}
 use mathlib.Core.Bool.{Bool, true, false, not, _&&_, _||_}
-use mathlib.Core.List.{List, _∷_}
+use mathlib.Core.List.{List}
 use native.Mathlib.Omega.{arith}
 use native.Mathlib.Nat.{zero-add}
 use lib.Dec.{eqb}
 use lib.ListN.{getD}
 use borrow.Author.Tests.{eq-eqb, ne-eqb, not-true, not-false}
 use Rattle.fields.specs.Lists.{pick, all, series}
-use Rattle.fields.proofs.Bools.{chosen, passed-over}
 use Rattle.fields.proofs.Tests.{series-at}
 use Rattle.quantities.specs.Quantities.{overlap}
 use Rattle.report.specs.declared.Head.{Head}
@@ -20,7 +19,7 @@ use Rattle.rules.specs.declared.UnitHead.{UnitHead}
 use Rattle.rules.specs.Codes.{meet}
 use Rattle.rules.specs.Block.{slotAt, used, recordIn, unitHead}
 use Rattle.rules.specs.Questions.{recordBy, rangeOf, leaves}
-use Rattle.rules.specs.Minutes.{FullRecord, recordsAmong, blockRecords, aboveMax, belowMin, levelsSome}
+use Rattle.rules.specs.Minutes.{blockRecords, aboveMax, belowMin}
 use Rattle.rules.specs.After.{oneStopOneLevelled, blockAfter, someSlot, warnsOverlap, warnsMinute, warnsLeft, worth, warnings}
 use Rattle.levels.specs.declared.LevelWarnings.{LevelWarnings}
 use Rattle.levels.specs.Counted.{countedRecords}

@@ -1,14 +1,14 @@
 -- Outside the minutes to be asked every forced level fits beside the highest deratings. Assumes nothing.
 use Prim.Native.Nat.{ℕ, zero, suc, _+_, _-_, _≤_, _<_}
 use mathlib.Core.Path.{_≡_, refl, ap, sym, _∙_, subst}
-use mathlib.Core.Bool.{Bool, true, false, not, _&&_, _||_, false≢true}
+use mathlib.Core.Bool.{Bool, true, false, _&&_, false≢true}
 use mathlib.Core.List.{List}
 use mathlib.Core.Logic.{_⊎_, inl, inr, ⊎-elim}
 use native.Mathlib.Nat.{add-zero, zero-add}
 use native.Mathlib.Omega.{arith}
-use lib.Dec.{leb, ltb, eqb}
+use lib.Dec.{ltb, eqb}
 use borrow.Author.Tests.{lt-ltb, le-ltb, ltb-true, ltb-false}
-use Rattle.fields.specs.Lists.{pick, all, series}
+use Rattle.fields.specs.Lists.{pick, series}
 use Rattle.fields.proofs.Bools.{pick-elim, lt-or-le}
 use Rattle.fields.proofs.Tests.{all-intro, all-at}
 use Rattle.quantities.specs.declared.Kilowatt.{Kilowatt}
@@ -26,8 +26,8 @@ use Rattle.levels.specs.declared.Extremes.{Extremes}
 use Rattle.levels.specs.declared.Lane.{Lane}
 use Rattle.levels.specs.Pairs.{pairOf, levelAmongPairs}
 use Rattle.levels.specs.Lanes.{laneCount, laneIn, laneLevels}
-use Rattle.levels.specs.Extremes.{Covers, CoversType, fitsBeside, passesAlone, laterOf, joinedWith, withUnfit, MinuteIn, Asks, AsksBy, AsksType}
-use Rattle.levels.proofs.Spans.{Sooner, sooner}
+use Rattle.levels.specs.Extremes.{CoversType, fitsBeside, passesAlone, laterOf, joinedWith, withUnfit, MinuteIn, Asks, AsksBy, AsksType}
+use Rattle.levels.proofs.Spans.{sooner}
 use Rattle.levels.proofs.EachLane.{Seen, seen-none, seen-more, seen-past, seen-all}
 use Rattle.levels.proofs.Bounds.{extremes-levels}
 

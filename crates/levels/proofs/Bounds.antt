@@ -5,7 +5,7 @@ use mathlib.Core.Bool.{Bool, true, false, not, _&&_, _||_, false≢true}
 use mathlib.Core.List.{List}
 use native.Mathlib.Omega.{arith}
 use lib.Dec.{leb, ltb, eqb}
-use borrow.Author.Tests.{le-leb, leb-true, lt-ltb, ltb-true, eqb-true, eqb-false, not-true}
+use borrow.Author.Tests.{le-leb, leb-true, eqb-true, eqb-false, not-true}
 use Rattle.fields.specs.Lists.{pick, series}
 use Rattle.fields.proofs.Bools.{and-left, and-right, and-both, pick-elim}
 use Rattle.fields.proofs.Tests.{all-intro}
@@ -23,8 +23,8 @@ use Rattle.levels.specs.declared.Extremes.{Extremes}
 use Rattle.levels.specs.declared.Lane.{Lane}
 use Rattle.levels.specs.declared.SweepResult.{SweepResult}
 use Rattle.levels.specs.Pairs.{pairOf, levelAmongPairs}
-use Rattle.levels.specs.Lanes.{laneCount, laneIn, lanePair, laneLevel, levelAmongLanes, laneLevels}
-use Rattle.levels.specs.Extremes.{Covers, Wider, WiderBy, CoversType, extremeLevels, extremesFit}
+use Rattle.levels.specs.Lanes.{laneCount, laneIn, laneLevels}
+use Rattle.levels.specs.Extremes.{Covers, WiderBy, CoversType, extremeLevels, extremesFit}
 use Rattle.levels.specs.Result.{sweepResult}
 use Rattle.levels.proofs.EachLane.{Seen, seen-none, seen-more, seen-past, seen-all}
 

@@ -1,26 +1,23 @@
 -- The lanes have the levels of the records that count. Assumes nothing.
-use Prim.Native.Nat.{ℕ, zero, suc, _+_, _*_, _-_, _≤_, _<_}
+use Prim.Native.Nat.{ℕ, zero, suc, _+_, _-_}
 use mathlib.Core.Path.{_≡_, refl, ap, sym, _∙_}
-use mathlib.Core.Bool.{Bool, true, false, not, _&&_, and-true, and-false}
-use mathlib.Core.List.{List, [], _∷_}
+use mathlib.Core.Bool.{Bool, true, false, not, and-true, and-false}
+use mathlib.Core.List.{List, _∷_}
 use native.Mathlib.Omega.{arith}
-use native.Mathlib.Nat.{zero-add}
 use native.Mathlib.Numerals.{add-one}
-use lib.Dec.{leb, ltb, eqb}
+use lib.Dec.{eqb}
 use lib.ListN.{getD}
 use borrow.Author.Tests.{ne-eqb, le-ltb, not-true, not-false}
 use Rattle.fields.specs.Lists.{pick, series}
-use Rattle.fields.proofs.Tests.{series-at}
 use Rattle.quantities.specs.declared.Minute.{Minute}
 use Rattle.report.specs.declared.Head.{Head}
 use Rattle.report.specs.declared.Part.{Part}
 use Rattle.report.specs.Report.{headOf, partAt, partsOf, partCount}
 use Rattle.rules.specs.declared.Level.{Level}
-use Rattle.rules.specs.declared.Levels.{Levels}
 use Rattle.rules.specs.declared.Record.{Record}
 use Rattle.rules.specs.Block.{pairStart, slotAt, recordIn, storedCount, pairsFrom, partsIn}
 use Rattle.rules.specs.Questions.{recordBy, recordOf, recordAt}
-use Rattle.rules.specs.Minutes.{noLevel, levelIn, FullRecord, levelOf, orElse, levelAmong, recordsAmong, levelsAt}
+use Rattle.rules.specs.Minutes.{noLevel, levelIn, FullRecord, levelOf, orElse, levelAmong, recordsAmong}
 use Rattle.block.specs.declared.Pair.{Pair}
 use Rattle.levels.specs.declared.Lane.{Lane}
 use Rattle.levels.specs.declared.Swept.{Swept}

@@ -2,7 +2,7 @@
 use Prim.Native.Nat.{ℕ, zero, suc, _+_, _-_, _≤_, _<_}
 use mathlib.Core.Path.{_≡_, refl, ap, sym, _∙_}
 use mathlib.Core.Bool.{Bool, true, false, _&&_, and-false, false≢true}
-use mathlib.Core.List.{List, [], _∷_}
+use mathlib.Core.List.{List}
 use native.Mathlib.Omega.{arith}
 use borrow.Author.Tests.{lt-ltb, le-ltb, le-leb, lt-leb, eq-eqb, leb-true, ltb-true}
 use mathlib.Core.Logic.{⊎-elim}
@@ -23,7 +23,6 @@ use Rattle.levels.specs.declared.LaneSpan.{LaneSpan}
 use Rattle.levels.specs.declared.LevelSpan.{LevelSpan}
 use Rattle.levels.specs.Pairs.{pairOf, levelAmongPairs, Passed}
 use Rattle.levels.specs.Lanes.{laneLevel, Stepped, Held}
-use Rattle.levels.specs.Stays.{Holds, Stays}
 use Rattle.levels.proofs.Spans.{Sooner}
 
 -- a pair as the code reads it

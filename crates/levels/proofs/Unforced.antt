@@ -11,7 +11,6 @@ use Rattle.fields.proofs.Bools.{and-left, and-right}
 use Rattle.fields.proofs.Tests.{Tested, tested-more, tested-all, all-intro}
 use Rattle.report.specs.declared.Head.{Head}
 use Rattle.report.specs.Report.{headOf}
-use Rattle.rules.specs.declared.Level.{Level}
 use Rattle.rules.specs.declared.PowerRange.{PowerRange}
 use Rattle.rules.specs.declared.Record.{Record}
 use Rattle.rules.specs.Codes.{W1, M1, Z1, positiveDerating, negativeDerating, forcedWork}

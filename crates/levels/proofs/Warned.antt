@@ -16,7 +16,6 @@ use Rattle.rules.specs.Minutes.{FullRecord, levelsAt, aboveMax, belowMin, level
 use Rattle.levels.specs.declared.Aside.{Aside}
 use Rattle.levels.specs.declared.Lane.{Lane}
 use Rattle.levels.specs.declared.SweepResult.{SweepResult}
-use Rattle.levels.specs.Counted.{countedRecords, sweptRecords}
 use Rattle.levels.specs.Lanes.{laneIn, laneLevels}
 use Rattle.levels.specs.Extremes.{passesAlone, laterOf, MinuteIn, Asks, AsksType}
 use Rattle.levels.specs.Result.{foundIn, sweepResult}

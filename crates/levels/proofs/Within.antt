@@ -1,5 +1,5 @@
 -- Where every forced level is within its limits, no minute is warned of. Assumes nothing.
-use Prim.Native.Nat.{ℕ, zero, suc, _+_, _*_, _-_, _≤_, _<_}
+use Prim.Native.Nat.{ℕ, zero, suc, _+_, _-_, _≤_, _<_}
 use mathlib.Core.Path.{_≡_, refl, ap, sym, _∙_, subst}
 use mathlib.Core.Bool.{Bool, true, false, not, _&&_, _||_, and-false, false≢true}
 use mathlib.Core.List.{List}
@@ -21,10 +21,7 @@ use Rattle.rules.specs.Questions.{recordAt}
 use Rattle.rules.specs.Minutes.{noLevel, levelIn, FullRecord, levelOf, levelAmong, recordsAmong, levelsAt, someMinute, aboveMax, belowMin, levelsSome}
 use Rattle.block.specs.declared.Pair.{Pair}
 use Rattle.block.specs.Slot.{pairAt}
-use Rattle.levels.specs.declared.LevelWarnings.{LevelWarnings}
-use Rattle.levels.specs.declared.SweepResult.{SweepResult}
-use Rattle.levels.specs.Counted.{slotRecord, countedRecords, sweptRecords}
-use Rattle.levels.specs.Result.{sweepResult}
+use Rattle.levels.specs.Counted.{slotRecord, countedRecords}
 use Rattle.levels.specs.Within.{powerWithin, pairsWithin, isForced, slotWithin, forcedWithin, levelWarnings}
 
 some-none : (start end : ℕ) (test : ℕ → Bool) → ((m : ℕ) → test m ≡ false) → someMinute start end test ≡ false

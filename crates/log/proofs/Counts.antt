@@ -1,11 +1,11 @@
 -- The counts of a log's steps, and the log of a list of reports. Assumes nothing.
-use Prim.Native.Nat.{ℕ, zero, suc, _+_, _*_, _≤_, _<_}
-use mathlib.Core.Path.{_≡_, refl, ap, sym, _∙_}
+use Prim.Native.Nat.{ℕ, _+_, _≤_, _<_}
+use mathlib.Core.Path.{_≡_, sym, _∙_}
 use mathlib.Core.Bool.{Bool, true, false, _&&_}
 use mathlib.Core.List.{List, [], _∷_, _++_, append-assoc}
 use native.Mathlib.Nat.{add-zero, zero-add}
 use native.Mathlib.Omega.{arith}
-use lib.Dec.{leb, ltb, eqb}
+use lib.Dec.{leb}
 use lib.ListN.{length}
 use borrow.Author.Tests.{lt-ltb, le-ltb, leb-true}
 use Rattle.fields.specs.Lists.{pick, put}
@@ -18,7 +18,7 @@ use Rattle.log.specs.declared.Progress.{Progress}
 use Rattle.log.specs.declared.Logged.{Logged}
 use Rattle.log.specs.Log.{isClean, isWarned, isRefused, countOf, totalsOf, logLine, totalsLine}
 use Rattle.log.proofs.Texts.{Line}
-use Rattle.log.specs.Run.{mostCounted, oneMore, countAnswer, progressAfter, atStart, nextLine, loggedAt, loggedWith}
+use Rattle.log.specs.Run.{mostCounted, oneMore, countAnswer, progressAfter, atStart, loggedAt, loggedWith}
 use Rattle.log.specs.Run.{logFrom, linesOf, logOf, statedLength}
 
 pub one-more : (n : ℕ) → n < mostCounted → oneMore n ≡ n + 1

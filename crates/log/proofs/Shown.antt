@@ -1,6 +1,6 @@
 -- A remark's bytes put as they are shown. Assumes nothing.
 use Prim.Native.Nat.{ℕ, suc, _+_, _/_, _%_, _<_}
-use mathlib.Core.Path.{_≡_, refl, ap, sym, _∙_}
+use mathlib.Core.Path.{_≡_, refl, sym}
 use mathlib.Core.Bool.{true, false, _&&_}
 use mathlib.Core.List.{List, [], _∷_, _++_, append-assoc, append-nil}
 use native.Mathlib.Omega.{arith}

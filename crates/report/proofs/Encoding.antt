@@ -3,7 +3,7 @@ use Prim.Native.Nat.{ℕ, _<_}
 use mathlib.Core.Path.{_≡_, refl}
 use mathlib.Core.List.{List}
 use Rattle.fields.specs.Lists.{series}
-use Rattle.fields.specs.Fields.{uintAt, bytesOf}
+use Rattle.fields.specs.Fields.{bytesOf}
 use Rattle.fields.proofs.Numbers.{uint-found}
 use Rattle.report.specs.declared.Head.{Head}
 use Rattle.report.specs.declared.Part.{Part}

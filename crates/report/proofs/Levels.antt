@@ -1,5 +1,5 @@
 -- A part's level, read where the power's sign bit is clear. Assumes nothing.
-use Prim.Native.Nat.{ℕ, _+_, _*_, _-_, _<_}
+use Prim.Native.Nat.{ℕ, _+_, _-_, _<_}
 use mathlib.Core.Path.{_≡_, ap, sym, _∙_}
 use mathlib.Core.List.{List}
 use native.Mathlib.Omega.{arith}

@@ -1,5 +1,5 @@
 -- Paper 01, "Reports on fresh roster A": what the programs send.
-use Prim.Native.Nat.{ℕ, _+_, _*_}
+use Prim.Native.Nat.{ℕ, _+_}
 use mathlib.Core.List.{List, [], _∷_, _++_}
 use lib.Dec.{eqb}
 use Rattle.fields.specs.Fields.{bytesOf}

@@ -2,9 +2,6 @@ use Rattle.block.specs.Codec.{putLastStamp}
 use borrow.Author.Needs.{needs}
 use Rattle.block.proofs.put_last_stamp.Statement.{statement}
 use Rattle.block.proofs.put_last_stamp.Tie as tie
-use Rattle.block.proofs.put_last_stamp.Reads as reads
-use Rattle.block.proofs.put_last_stamp.Lts as lts
-use Rattle.quantities.proofs.put_minute.Reads as put-minute-reads
 
 -- src/lib.rt:520:5
 put-minute-requires : tie.Need-put-minute-requires

@@ -2,10 +2,6 @@ use Rattle.block.proofs.Written.{pair-written}
 use borrow.Author.Needs.{needs}
 use Rattle.block.proofs.put_pair.Statement.{statement}
 use Rattle.block.proofs.put_pair.Tie as tie
-use Rattle.block.proofs.put_pair.Reads as reads
-use Rattle.block.proofs.put_pair.Lts as lts
-use Rattle.quantities.proofs.put_kilowatt.Reads as put-kilowatt-reads
-use Rattle.quantities.proofs.put_minute.Reads as put-minute-reads
 
 -- src/lib.rt:584:28
 mul-at : tie.Need-mul-at

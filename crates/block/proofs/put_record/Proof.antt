@@ -3,11 +3,6 @@ use Rattle.block.specs.Codec.{putRecord}
 use borrow.Author.Needs.{needs}
 use Rattle.block.proofs.put_record.Statement.{statement}
 use Rattle.block.proofs.put_record.Tie as tie
-use Rattle.block.proofs.put_record.Reads as reads
-use Rattle.block.proofs.put_record.Lts as lts
-use Rattle.block.proofs.put_codes.Reads as put-codes-reads
-use Rattle.block.proofs.put_identifier.Reads as put-identifier-reads
-use Rattle.block.proofs.put_times.Reads as put-times-reads
 
 -- src/lib.rt:575:5
 put-codes-requires : tie.Need-put-codes-requires

@@ -3,12 +3,6 @@ use Rattle.block.specs.Codec.{putUnitHead}
 use borrow.Author.Needs.{needs}
 use Rattle.block.proofs.put_unit_head.Statement.{statement}
 use Rattle.block.proofs.put_unit_head.Tie as tie
-use Rattle.block.proofs.put_unit_head.Reads as reads
-use Rattle.block.proofs.put_unit_head.Lts as lts
-use Rattle.block.proofs.put_last_stamp.Reads as put-last-stamp-reads
-use Rattle.block.proofs.put_powers.Reads as put-powers-reads
-use Rattle.block.proofs.put_row.Reads as put-row-reads
-use Rattle.block.proofs.put_unit.Reads as put-unit-reads
 
 -- src/lib.rt:536:5
 put-unit-requires : tie.Need-put-unit-requires

@@ -1,12 +1,9 @@
 use native.Mathlib.Omega.{arith}
 use mathlib.Core.Path.{ap, sym, _∙_}
-use mathlib.Core.List.{List}
-use Prim.Native.Nat.{ℕ, _*_, _-_}
-use Rattle.fields.proofs.Slices.{part-lent, lent-back}
+use Prim.Native.Nat.{_-_}
 use borrow.Author.Tests.{not-false}
 use Rattle.report.specs.declared.Head.{Head}
 use Rattle.report.proofs.Sizes.{whole-sized}
-use Rattle.rules.specs.Judge.{judge}
 use Rattle.desk.proofs.Answers.{no-1, no-2, no-3, judged-there, inside, answered-there, left-there}
 use Rattle.desk.proofs.Free.{lent-whole}
 use borrow.Author.Needs.{needs}

@@ -1,4 +1,3 @@
-use native.Mathlib.Omega.{arith}
 use Rattle.desk.proofs.Answers.{refuses, accepts}
 use Rattle.rules.proofs.BlockLaws.{ok-size}
 use Rattle.desk.proofs.Free.{block-free}

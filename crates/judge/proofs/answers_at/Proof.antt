@@ -1,4 +1,3 @@
-use native.Mathlib.Omega.{arith}
 use Rattle.judge.proofs.Joins.{free-answers, used-answers}
 use borrow.Author.Needs.{needs}
 use Rattle.judge.proofs.answers_at.Statement.{statement}

@@ -1,4 +1,3 @@
-use native.Mathlib.Omega.{arith}
 use borrow.Author.Needs.{needs}
 use Rattle.judge.proofs.changes_state.Statement.{statement}
 use Rattle.judge.proofs.changes_state.Tie as tie

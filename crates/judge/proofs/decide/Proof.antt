@@ -1,4 +1,3 @@
-use native.Mathlib.Omega.{arith}
 use Rattle.judge.proofs.Decisions.{stops-at-validation, stops-at-holder, decides}
 use borrow.Author.Needs.{needs}
 use Rattle.judge.proofs.decide.Statement.{statement}

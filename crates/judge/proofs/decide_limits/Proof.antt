@@ -1,4 +1,3 @@
-use native.Mathlib.Omega.{arith}
 use Rattle.judge.proofs.Decisions.{limits-refuse, limits-accept}
 use borrow.Author.Needs.{needs}
 use Rattle.judge.proofs.decide_limits.Statement.{statement}

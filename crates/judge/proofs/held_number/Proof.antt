@@ -1,4 +1,3 @@
-use native.Mathlib.Omega.{arith}
 use Rattle.rules.specs.Judge.{heldNumber}
 use borrow.Author.Needs.{needs}
 use Rattle.judge.proofs.held_number.Statement.{statement}

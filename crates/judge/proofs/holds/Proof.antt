@@ -1,4 +1,3 @@
-use native.Mathlib.Omega.{arith}
 use Rattle.judge.proofs.Joins.{none-held, some-held}
 use borrow.Author.Needs.{needs}
 use Rattle.judge.proofs.holds.Statement.{statement}

@@ -1,4 +1,3 @@
-use native.Mathlib.Omega.{arith}
 use Rattle.rules.specs.Judge.{limitNumber}
 use borrow.Author.Needs.{needs}
 use Rattle.judge.proofs.limit_number.Statement.{statement}

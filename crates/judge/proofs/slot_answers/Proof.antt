@@ -1,4 +1,3 @@
-use native.Mathlib.Omega.{arith}
 use Rattle.judge.specs.Survey.{slotAnswers}
 use borrow.Author.Needs.{needs}
 use Rattle.judge.proofs.slot_answers.Statement.{statement}

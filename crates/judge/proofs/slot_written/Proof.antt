@@ -1,4 +1,3 @@
-use native.Mathlib.Omega.{arith}
 use Rattle.judge.specs.Decided.{writtenBy}
 use borrow.Author.Needs.{needs}
 use Rattle.judge.proofs.slot_written.Statement.{statement}

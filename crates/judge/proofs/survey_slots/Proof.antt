@@ -1,5 +1,4 @@
 use borrow.Author.Needs.{needs}
-use native.Mathlib.Omega.{arith}
 use Prim.Native.Nat.{_-_}
 use Rattle.rules.specs.Block.{slotCount}
 use Rattle.judge.proofs.Joins.{Surveyed, surveyed-none, surveyed-more, surveyed-all}

@@ -1,4 +1,3 @@
-use native.Mathlib.Omega.{arith}
 use mathlib.Core.Path.{ap, _∙_}
 use Rattle.rules.specs.After.{worth}
 use Rattle.judge.proofs.Warnings.{no-warnings, all-warnings}

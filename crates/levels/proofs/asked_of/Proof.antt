@@ -1,5 +1,4 @@
 use borrow.Author.Needs.{needs}
-use native.Mathlib.Omega.{arith}
 use Prim.Native.Nat.{_-_}
 use Rattle.levels.specs.Lanes.{laneCount}
 use Rattle.levels.specs.Extremes.{passesAlone}

@@ -1,4 +1,3 @@
-use native.Mathlib.Omega.{arith}
 use mathlib.Core.Path.{refl}
 use Rattle.levels.proofs.Counted.{first-lane, next-lane}
 use borrow.Author.Needs.{needs}

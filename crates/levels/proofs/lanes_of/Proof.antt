@@ -1,5 +1,4 @@
 use borrow.Author.Needs.{needs}
-use native.Mathlib.Omega.{arith}
 use Prim.Native.Nat.{_-_}
 use Rattle.levels.specs.Lanes.{laneCount, laneAt}
 use Rattle.levels.proofs.Choosing.{Filled, filled-start, filled-next, filled-end}

@@ -1,4 +1,3 @@
-use native.Mathlib.Omega.{arith}
 use borrow.Author.Needs.{needs}
 use Rattle.levels.proofs.levels_of.Statement.{statement}
 use Rattle.levels.proofs.levels_of.Tie as tie

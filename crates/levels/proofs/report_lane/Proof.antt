@@ -1,5 +1,4 @@
 use borrow.Author.Needs.{needs}
-use native.Mathlib.Omega.{arith}
 use Rattle.levels.proofs.Counted.{report-uncounted, report-counted}
 use Rattle.levels.proofs.report_lane.Statement.{statement}
 use Rattle.levels.proofs.report_lane.Tie as tie

@@ -1,5 +1,4 @@
 use borrow.Author.Needs.{needs}
-use native.Mathlib.Omega.{arith}
 use Rattle.levels.proofs.Counted.{slot-uncounted, slot-counted}
 use Rattle.levels.proofs.slot_lane.Statement.{statement}
 use Rattle.levels.proofs.slot_lane.Tie as tie

@@ -1,5 +1,4 @@
 use borrow.Author.Needs.{needs}
-use native.Mathlib.Omega.{arith}
 use Rattle.levels.proofs.Stretches.{choices-ahead, choices-ran}
 use Rattle.levels.proofs.sweep_choices.Statement.{statement}
 use Rattle.levels.proofs.sweep_choices.Tie as tie

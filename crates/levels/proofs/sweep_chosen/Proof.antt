@@ -1,5 +1,4 @@
 use borrow.Author.Needs.{needs}
-use native.Mathlib.Omega.{arith}
 use Prim.Native.Nat.{_-_}
 use mathlib.Core.Path.{refl}
 use Rattle.levels.proofs.Stretches.{Along, along-none, along-ends, along-stops, along-turn, forced-place, positive-place, negative-place}

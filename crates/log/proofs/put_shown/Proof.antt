@@ -3,7 +3,6 @@ use mathlib.Core.Path.{_≡_, refl}
 use native.Mathlib.Omega.{arith}
 use lib.ListN.{length, take}
 use lib.Seq.{take-length}
-use Rattle.fields.specs.Lists.{put}
 use Rattle.log.specs.Remarks.{shown}
 use Rattle.log.proofs.Texts.{Put}
 use Rattle.log.proofs.Shown.{shown-none, shown-more}

@@ -1,4 +1,3 @@
-use mathlib.Core.Path.{refl}
 use native.Mathlib.Omega.{arith}
 use Rattle.log.proofs.Shown.{backslash, as-it-is, in-hex}
 use borrow.Author.Needs.{needs}

@@ -1,4 +1,3 @@
-use native.Mathlib.Omega.{arith}
 use borrow.Author.Needs.{needs}
 use Rattle.records.proofs.skips_question.Statement.{statement}
 use Rattle.records.proofs.skips_question.Tie as tie

@@ -1,5 +1,4 @@
 use borrow.Author.Needs.{needs}
-use native.Mathlib.Omega.{arith}
 use Prim.Native.Nat.{_-_}
 use Rattle.validation.proofs.Joins.{PassedOver, over-none, over-more, over-all}
 use Rattle.validation.proofs.ask_parts.Statement.{statement}

@@ -1,4 +1,3 @@
-use native.Mathlib.Omega.{arith}
 use Rattle.validation.proofs.Joins.{no-list, list-judged}
 use borrow.Author.Needs.{needs}
 use Rattle.validation.proofs.judge_cover.Statement.{statement}

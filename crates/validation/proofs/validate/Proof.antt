@@ -1,4 +1,3 @@
-use native.Mathlib.Omega.{arith}
 use Rattle.validation.proofs.Joins.{parts-asked-of, validated}
 use borrow.Author.Needs.{needs}
 use Rattle.validation.proofs.validate.Statement.{statement}
