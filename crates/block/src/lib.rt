@@ -30,7 +30,7 @@ ghost use mathlib.Core.Bool.{not, _||_};
 ghost use mathlib.Core.List.{List};
 ghost use Prim.Native.Nat.{ℕ, _+_, _*_, _≤_, _<_};
 ghost use lib.ListN.{length, drop};
-ghost use Rattle.fields.specs.Fields.{u8At, u16At, u32At};
+ghost use Rattle.fields.specs.Fields.{u32At};
 ghost use Rattle.fields.specs.Lists.{all, series, part, put};
 ghost use Rattle.rules.specs.declared.Record.{Record};
 ghost use Rattle.rules.specs.declared.UnitHead.{UnitHead};

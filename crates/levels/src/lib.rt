@@ -23,7 +23,7 @@ ghost use Rattle.rules.specs.Minutes.{noLevel, fitsW1M1, fitsZ1, levelsFit, abo
 ghost use Rattle.levels.specs.Pairs.{pairOf, levelAmongPairs, Passed};
 ghost use Rattle.levels.specs.Counted.{countedRecords, sweptRecords};
 ghost use Rattle.levels.specs.Lanes.{laneCount, noLane, laneOf, reportLane, slotLane, laneAt, laneIn, laneLevel, laneLevels, levelsOf, Stepped, Placed, Held, Chosen, chosenLevels, choiceLevels, spanAt, placeAfter, AheadAll, besideOf, soonest, Ready};
-ghost use Rattle.levels.specs.Result.{withSpan, bothFound, foundIn, Ran, sweepResult};
+ghost use Rattle.levels.specs.Result.{withSpan, bothFound, foundIn, Ran};
 ghost use Rattle.levels.specs.Extremes.{countedTypes, typesMeet, WiderBy, CoversType, extremesFit, fitsBeside, passesAlone, laterOf, withUnfit, AsksBy, AsksType};
 ghost use Rattle.rules.specs.Codes.{forcedWork};
 ghost use Rattle.levels.specs.Within.{powerWithin, pairsWithin, slotWithin, forcedWithin, levelWarnings};

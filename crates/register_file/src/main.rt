@@ -14,7 +14,6 @@ ghost use mathlib.Core.Path.{_≡_};
 ghost use Prim.Native.Nat.{_-_, _≤_};
 ghost use lib.ListN.{length};
 ghost use Rattle.fields.specs.Lists.{part, put};
-ghost use Rattle.libc.specs.Io.{Ended};
 
 // The progress, which bytes of the input were read and are not judged yet, and how the run goes on:
 // more has to come, it ends, or it has failed and that was said.

@@ -21,7 +21,7 @@ ghost use mathlib.Core.Bool.{_&&_, _||_};
 ghost use mathlib.Core.List.{[]};
 ghost use Rattle.report.specs.Report.{partsOf};
 ghost use Rattle.rules.specs.Records.{partTimes, begun};
-ghost use Rattle.rules.specs.Questions.{recordBy, quarterHour, partOnQuarter, deratingFits, question4, question6, question8, question16};
+ghost use Rattle.rules.specs.Questions.{recordBy, quarterHour, partOnQuarter, deratingFits, question4, question6, question8};
 ghost use Rattle.validation.specs.Parts.{largerOf, partOfSize, answersOf, PartsAsked, refusalWith, validationRefusal, validatedOf};
 
 // What is asked of each part: its times (question 4), its end on a quarter hour (7), its power (9), its derating (16).
