@@ -41,14 +41,14 @@ fn end_of(parts: u16) -> u32
 }
 
 // Where a part lies in the report.
-fn place_of(number: u16) -> usize
+fn offset_of(number: u16) -> usize
     ensures { λ r. ⌜ r ≡ 32 + 16 * number ⌝ }
 {
     PARTS_START + PART_SIZE * (number as usize) - PART_SIZE
 }
 
 fn put_part(report: &mut [u8], number: u16) {
-    let at = place_of(number);
+    let at = offset_of(number);
     fields::put_u32(report, at, 0x4B50);
     fields::put_u32(report, at + START, end_of(number) - 15);
     fields::put_u32(report, at + END, end_of(number));
@@ -91,14 +91,14 @@ fn judged_by_part(register: &mut [u8], report: &[u8], end: usize, p: Place, word
 // A list with one part that starts as said.
 fn starts(register: &mut [u8], report: &mut [u8], p: Place, time: u32, words: &[u8]) {
     let end = compose(report, p.count);
-    fields::put_u32(report, place_of(p.number) + START, time);
+    fields::put_u32(report, offset_of(p.number) + START, time);
     judged_by_part(register, report, end, p, words);
 }
 
 // A list with one part that ends as said.
 fn ends(register: &mut [u8], report: &mut [u8], p: Place, time: u32, words: &[u8]) {
     let end = compose(report, p.count);
-    fields::put_u32(report, place_of(p.number) + END, time);
+    fields::put_u32(report, offset_of(p.number) + END, time);
     judged_by_part(register, report, end, p, words);
 }
 
