@@ -12,6 +12,7 @@ use Rattle.rules.specs.Boundaries.Limits as limits
 use Rattle.rules.specs.Boundaries.Order as order
 use Rattle.rules.specs.Boundaries.Warnings as warnings
 use Rattle.rules.specs.Boundaries.After as after
+use Rattle.rules.specs.Boundaries.EarlyEnd as earlyEnd
 use Rattle.rules.proofs.Computed.{computed}
 
 layout-codes : failing 1 layout.codes ≡ []
@@ -194,6 +195,30 @@ after-refusals : failing 1 after.refusals ≡ []
 unfolding computed failing sameBytes
 after-refusals = refl
 
+earlyEnd-marks : failing 1 earlyEnd.marks ≡ []
+unfolding computed failing sameBytes
+earlyEnd-marks = refl
+
+earlyEnd-times : failing 1 earlyEnd.times ≡ []
+unfolding computed failing sameBytes
+earlyEnd-times = refl
+
+earlyEnd-parts : failing 1 earlyEnd.parts ≡ []
+unfolding computed failing sameBytes
+earlyEnd-parts = refl
+
+earlyEnd-passedOver : failing 1 earlyEnd.passedOver ≡ []
+unfolding computed failing sameBytes
+earlyEnd-passedOver = refl
+
+earlyEnd-heldRecords : failing 1 earlyEnd.heldRecords ≡ []
+unfolding computed failing sameBytes
+earlyEnd-heldRecords = refl
+
+earlyEnd-afterwards : failing 1 earlyEnd.afterwards ≡ []
+unfolding computed failing sameBytes
+earlyEnd-afterwards = refl
+
 pub boundaries-hold : BoundariesHold
 boundaries-hold = record {
   layout-codes = layout-codes;
@@ -241,4 +266,10 @@ boundaries-hold = record {
   after-slots = after-slots;
   after-leaving = after-leaving;
   after-refusals = after-refusals;
+  earlyEnd-marks = earlyEnd-marks;
+  earlyEnd-times = earlyEnd-times;
+  earlyEnd-parts = earlyEnd-parts;
+  earlyEnd-passedOver = earlyEnd-passedOver;
+  earlyEnd-heldRecords = earlyEnd-heldRecords;
+  earlyEnd-afterwards = earlyEnd-afterwards;
 }

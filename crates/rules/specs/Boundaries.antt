@@ -10,6 +10,7 @@ pub mod Limits
 pub mod Order
 pub mod Warnings
 pub mod After
+pub mod EarlyEnd
 use mathlib.Core.Path.{_≡_}
 use mathlib.Core.List.{[]}
 use Rattle.rules.specs.Boundaries.Tests.{failing}
@@ -22,6 +23,7 @@ use Rattle.rules.specs.Boundaries.Limits as limits
 use Rattle.rules.specs.Boundaries.Order as order
 use Rattle.rules.specs.Boundaries.Warnings as warnings
 use Rattle.rules.specs.Boundaries.After as after
+use Rattle.rules.specs.Boundaries.EarlyEnd as earlyEnd
 
 -- no case fails
 pub record BoundariesHold : Type 0 where
@@ -79,3 +81,10 @@ pub record BoundariesHold : Type 0 where
   pub after-slots : failing 1 after.slots ≡ []
   pub after-leaving : failing 1 after.leaving ≡ []
   pub after-refusals : failing 1 after.refusals ≡ []
+  -- 02, A2
+  pub earlyEnd-marks : failing 1 earlyEnd.marks ≡ []
+  pub earlyEnd-times : failing 1 earlyEnd.times ≡ []
+  pub earlyEnd-parts : failing 1 earlyEnd.parts ≡ []
+  pub earlyEnd-passedOver : failing 1 earlyEnd.passedOver ≡ []
+  pub earlyEnd-heldRecords : failing 1 earlyEnd.heldRecords ≡ []
+  pub earlyEnd-afterwards : failing 1 earlyEnd.afterwards ≡ []

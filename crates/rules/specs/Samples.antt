@@ -67,6 +67,9 @@ direction n s = byte 8 n s
 abbrev pub mark : ℕ → List ℕ → List ℕ
 mark n s = byte 9 n s
 
+abbrev pub endMark : ℕ → List ℕ → List ℕ
+endMark n s = byte 10 n s
+
 abbrev pub qualification : ℕ → List ℕ → List ℕ
 qualification n s = byte 11 n s
 

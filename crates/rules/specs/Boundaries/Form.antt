@@ -11,7 +11,7 @@ use Rattle.report.specs.Cover.{coverOf}
 use Rattle.report.specs.Report.{headOf, partsOf}
 use Rattle.rules.specs.Codes.{stop, positiveDerating, negativeDerating, forcedWork, offGrid, event, planned, executed}
 use Rattle.rules.specs.Questions.{question7}
-use Rattle.rules.specs.Samples.{period, partOf, _but_, byte, word, type, operation, direction, mark, qualification, ordinal, identifier, stamp, start, end, created, levelled, plannedStop, begunStop, eventAt, slotOf}
+use Rattle.rules.specs.Samples.{period, partOf, _but_, byte, word, type, operation, direction, mark, endMark, qualification, ordinal, identifier, stamp, start, end, created, levelled, plannedStop, begunStop, eventAt, slotOf}
 use Rattle.rules.specs.Boundaries.Tests.{unitW, unitM, unitZ, unitA, positive, negative, forced, offGridAt, withdrawn, gives, names}
 
 -- "0 to 26,298,719"
@@ -43,12 +43,13 @@ ranges =
     ∷ gives 4 unitW (positive 20000 but direction 0)
     ∷ gives 5 unitW (positive 20000 but direction 3)
     ∷ gives 4 unitW (positive 20000 but direction 4)
-    -- "Marks: 1 planned, 2 executed. The end mark is always 1."
+    -- "Marks: 1 planned, 2 executed."
     ∷ gives 4 unitW (positive 20000 but mark 0)
     ∷ gives 6 unitW (positive 20000 but mark 2)
     ∷ gives 4 unitW (positive 20000 but mark 3)
-    ∷ gives 4 unitW (positive 20000 but byte 10 0)
-    ∷ gives 4 unitW (positive 20000 but byte 10 2)
+    ∷ gives 4 unitW (positive 20000 but endMark 0)
+    ∷ gives 6 unitW (positive 20000 but endMark 2)
+    ∷ gives 4 unitW (positive 20000 but endMark 3)
     -- "Stop qualifications: 1 RA .. 7 OS; 8 RE stands only in a unit's row. Off-grid: 1 PZM .. 5 BLT."
     ∷ gives 4 unitW (plannedStop 0 15 30)
     ∷ gives 0 unitW (plannedStop 1 15 30)
