@@ -18,7 +18,7 @@ use Rattle.rules.specs.declared.Record.{Record}
 use Rattle.rules.specs.declared.UnitHead.{UnitHead}
 use Rattle.rules.specs.Codes.{meet}
 use Rattle.rules.specs.Block.{slotAt, used, recordIn, unitHead}
-use Rattle.rules.specs.Questions.{recordBy, rangeOf, leaves}
+use Rattle.rules.specs.Questions.{eventHead, recordBy, rangeOf, leaves, vacates}
 use Rattle.rules.specs.Minutes.{blockRecords, aboveMax, belowMin}
 use Rattle.rules.specs.After.{oneStopOneLevelled, blockAfter, someSlot, warnsOverlap, warnsMinute, warnsLeft, worth, warnings}
 use Rattle.levels.specs.declared.LevelWarnings.{LevelWarnings}
@@ -65,15 +65,15 @@ module _ (after : List ℕ) (h : Head) where
   unfolding warnsMinute pick
   minutes-silent ne = rw (ne-eqb (h .«record_type») 4 ne)
 
-  pub no-warnings : (left : Bool) → (eqb (h .«record_type») 6 || eqb (h .operation) 3) ≡ true → 0 ≡ warningsOn after h left
+  pub no-warnings : (left : Bool) {v : Bool} → v ≡ vacates h → (eventHead h || v) ≡ true → 0 ≡ warningsOn after h left
   unfolding warningsOn pick
-  no-warnings left t = rw t
+  no-warnings left e t = rw (rw e at t)
 
-  pub all-warnings : (left : Bool) {x y z : ℕ} → (eqb (h .«record_type») 6 || eqb (h .operation) 3) ≡ false
+  pub all-warnings : (left : Bool) {v : Bool} {x y z : ℕ} → v ≡ vacates h → (eventHead h || v) ≡ false
       → x ≡ worth 1 (warnsOverlap after h) → y ≡ worth 8 (eqb (h .«record_type») 1 && left) → z ≡ minuteWarnings after h
       → x + z + y ≡ warningsOn after h left
   unfolding warningsOn pick
-  all-warnings left t a b c = rw (a, b, c, t)
+  all-warnings left e t a b c = rw (a, b, c, rw e at t)
 
 -- they are the warnings of the paper
 pub warnings-same : (b s : List ℕ) → warningsOn (blockAfter b s) (headOf s) (someSlot (leaves b s)) ≡ warnings b s

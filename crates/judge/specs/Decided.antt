@@ -8,11 +8,10 @@ use Rattle.fields.specs.Lists.{pick, series}
 use Rattle.report.specs.declared.Head.{Head}
 use Rattle.report.specs.Report.{headOf, partsOf}
 use Rattle.rules.specs.declared.UnitHead.{UnitHead}
-use Rattle.rules.specs.Codes.{change}
 use Rattle.rules.specs.Block.{slotCount}
 use Rattle.rules.specs.Questions.{creationHead, changesState, leaves, stays, question18, question19}
 use Rattle.rules.specs.Minutes.{question17}
-use Rattle.rules.specs.After.{slotWritten, cleared, someSlot}
+use Rattle.rules.specs.After.{rewrites, slotWritten, cleared, someSlot}
 use Rattle.rules.specs.Judge.{partBeside, limitNumber, refusalNumber}
 use Rattle.levels.specs.Counted.{sweptRecords}
 use Rattle.judge.specs.declared.Decision.{Decision}
@@ -21,7 +20,7 @@ use Rattle.judge.specs.Survey.{surveyOf, freeAmong, someOf}
 
 -- the slot that is written, or 8
 unfoldable pub writtenBy : Head → ℕ → ℕ → ℕ
-writtenBy h slot free = pick (creationHead h) free (pick (eqb (h .operation) change) slot slotCount)
+writtenBy h slot free = pick (creationHead h) free (pick (rewrites h) slot slotCount)
 
 abbrev pub refusedDecision : ℕ → ℕ → Decision
 refusedDecision n part = record {

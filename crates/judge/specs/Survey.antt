@@ -8,10 +8,10 @@ use lib.ListN.{getD}
 use Rattle.fields.specs.Lists.{all, series, seek}
 use Rattle.report.specs.declared.Head.{Head}
 use Rattle.rules.specs.declared.Record.{Record}
-use Rattle.rules.specs.Codes.{change, withdraw}
+use Rattle.rules.specs.Codes.{change}
 use Rattle.rules.specs.Records.{sameIdentifier, clashes, closes}
 use Rattle.rules.specs.Block.{slotCount, slotAt, used}
-use Rattle.rules.specs.Questions.{recordBy, recordAt, live, mustLeave}
+use Rattle.rules.specs.Questions.{recordBy, recordAt, live, mustLeave, vacates}
 use Rattle.rules.specs.After.{someSlot}
 use Rattle.judge.specs.declared.SlotAnswers.{SlotAnswers}
 use Rattle.judge.specs.declared.Survey.{Survey}
@@ -28,7 +28,7 @@ leavesBy h slot changes is-live x i = otherBy h slot is-live i && mustLeave h ch
 
 abbrev pub staysBy : Head → ℕ → Bool → Bool → Record → ℕ → Bool
 staysBy h slot changes is-live x i =
-    is-live && not (leavesBy h slot changes is-live x i) && not (eqb (h .operation) withdraw && eqb i slot)
+    is-live && not (leavesBy h slot changes is-live x i) && not (vacates h && eqb i slot)
 
 -- slot i, where x is its record
 unfoldable pub slotAnswers : Head → ℕ → Bool → Bool → Bool → Record → ℕ → SlotAnswers

@@ -9,7 +9,7 @@ use Rattle.report.specs.declared.Head.{Head}
 use Rattle.rules.specs.declared.Record.{Record}
 use Rattle.rules.specs.Codes.{stop, meet}
 use Rattle.rules.specs.Block.{slotAt, used}
-use Rattle.rules.specs.Questions.{eventHead, withdrawalHead, recordAt}
+use Rattle.rules.specs.Questions.{eventHead, vacates, recordAt}
 use Rattle.rules.specs.Minutes.{aboveMax, belowMin}
 use Rattle.rules.specs.After.{oneStopOneLevelled, warnsOverlap, warnsMinute, worth}
 
@@ -24,5 +24,5 @@ minuteWarnings after h = worth 2 (warnsMinute aboveMax after h) + worth 4 (warns
 
 unfoldable pub warningsOn : List ℕ → Head → Bool → ℕ
 warningsOn after h left =
-    pick (eventHead h || withdrawalHead h) 0
+    pick (eventHead h || vacates h) 0
     (worth 1 (warnsOverlap after h) + minuteWarnings after h + worth 8 (eqb (h .«record_type») stop && left))

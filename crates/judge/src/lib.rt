@@ -107,10 +107,13 @@ fn may_move(h: Head, held: Record) -> bool
     ensures { λ r. ⌜ r ≡ question14 h held ⌝ }
 {
     (h.operation == CREATE)
-        | !(held.start_mark == EXECUTED)
-        | ((h.operation == CHANGE)
-            & (h.period.start.0 == held.period.start.0)
-            & (h.start_mark == EXECUTED))
+        | records::choose(
+            held.start_mark == EXECUTED,
+            (h.operation == CHANGE)
+                & (h.period.start.0 == held.period.start.0)
+                & (h.start_mark == EXECUTED),
+            !records::ends_early(h),
+        )
 }
 
 // Questions 10 to 14.
@@ -163,7 +166,7 @@ fn slot_answers(h: Head, slot: u8, changes: bool, is_live: bool, x: Record, i: u
     let other = is_live & !((h.operation == CHANGE) & (i == slot));
     let closed = !(other & records::records_clash(r, x)) | records::record_closes(r, x);
     let leaves = other & must_leave(h, changes, x);
-    let stays = is_live & !leaves & !((h.operation == WITHDRAW) & (i == slot));
+    let stays = is_live & !leaves & !(records::vacates_slot(h) & (i == slot));
     SlotAnswers {
         other,
         closed,
@@ -295,7 +298,11 @@ fn slot_written(h: Head, slot: u8, free: u8) -> u8
     records::choose_code(
         (h.operation == CREATE) & !(h.record_type == EVENT),
         free,
-        records::choose_code(h.operation == CHANGE, slot, SLOT_COUNT),
+        records::choose_code(
+            (h.operation == CHANGE) & !records::ends_early(h),
+            slot,
+            SLOT_COUNT,
+        ),
     )
 }
 
@@ -436,7 +443,7 @@ fn minute_warnings(after: &[u8], h: Head) -> u8
 pub fn warnings_on(after: &[u8], h: Head, left: bool) -> u8
     ensures { λ r. ⌜ r ≡ warningsOn (now (after .entry)) h left ⌝ }
 {
-    if (h.record_type == EVENT) | (h.operation == WITHDRAW) {
+    if (h.record_type == EVENT) | records::vacates_slot(h) {
         return 0;
     }
     let overlap = worth_of(1, warns_overlap(after, h));

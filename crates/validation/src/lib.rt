@@ -1,6 +1,7 @@
 // Questions 4 to 9 and 16: what is asked of a report and its unit's kind and powers.
 use quantities::Kilowatt;
 use quantities::Minute;
+use records::CHANGE;
 use records::CREATE;
 use records::EVENT;
 use records::EXECUTED;
@@ -21,7 +22,7 @@ ghost use mathlib.Core.Bool.{_&&_, _||_};
 ghost use mathlib.Core.List.{[]};
 ghost use Rattle.report.specs.Report.{partsOf};
 ghost use Rattle.rules.specs.Records.{partTimes, begun};
-ghost use Rattle.rules.specs.Questions.{recordBy, quarterHour, partOnQuarter, deratingFits, question4, question6, question8};
+ghost use Rattle.rules.specs.Questions.{recordBy, quarterHour, partOnQuarter, deratingFits, endMarkInRange, earlyEndTimes, question4, question6, question8};
 ghost use Rattle.validation.specs.Parts.{largerOf, partOfSize, answersOf, PartsAsked, refusalWith, validationRefusal, validatedOf};
 
 // What is asked of each part: its times (question 4), its end on a quarter hour (7), its power (9), its derating (16).
@@ -104,6 +105,14 @@ fn ask_parts(report: &[u8], stamp: Minute, range: PowerRange, record_type: u8) -
     }
 }
 
+// Question 4, of the end mark.
+fn end_mark_in_range(h: Head) -> bool
+    ensures { λ r. ⌜ r ≡ endMarkInRange h ⌝ }
+{
+    let on_no_record = (h.record_type == EVENT) | (h.operation == WITHDRAW);
+    (h.end_mark == PLANNED) | (records::ends_early(h) & !on_no_record)
+}
+
 // Question 4, but for the parts.
 fn head_passes(h: Head) -> bool
     ensures { λ r. ⌜ r ≡ question4 h [] ⌝ }
@@ -112,9 +121,20 @@ fn head_passes(h: Head) -> bool
     let zero = records::identifier_zero(r);
     records::within(STOP, EVENT, h.record_type)
         & records::within(CREATE, WITHDRAW, h.operation)
-        & (h.end_mark == PLANNED)
+        & end_mark_in_range(h)
         & records::fields_in_range(r)
         & (!(h.record_type == EVENT) | ((h.operation == CREATE) & zero))
+}
+
+// Question 6, of an early end.
+fn early_end_is_consistent(h: Head) -> bool
+    ensures { λ r. ⌜ r ≡ earlyEndTimes h ⌝ }
+{
+    (h.operation == CHANGE)
+        & records::is_levelled(h.record_type)
+        & (h.start_mark == EXECUTED)
+        & (h.period.start.0 < h.period.end.0)
+        & (h.period.end.0 <= h.stamp.0)
 }
 
 // Question 6.
@@ -128,7 +148,11 @@ fn times_are_consistent(h: Head) -> bool
         & (h.stamp.0 < h.period.end.0)
         & records::choose(begun, past, h.stamp.0 < h.period.start.0)
         & (!(h.record_type == OFF_GRID) | begun);
-    records::choose(h.record_type == EVENT, event, others)
+    records::choose(
+        h.record_type == EVENT,
+        event,
+        records::choose(records::ends_early(h), early_end_is_consistent(h), others),
+    )
 }
 
 // Question 7, but for the parts.
