@@ -13,4 +13,5 @@ slot-written-spec =
     (tie.spec
     (λ c κs. search needs)
     (λ c κs. search needs)
+    (λ c κs. search needs)
     returns)
