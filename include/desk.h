@@ -45,7 +45,7 @@ enum {
     DESK_REFUSED_UNIT_OR_OWNER = 3,       /* no such unit, or another owner's; which of the two is not told */
     DESK_REFUSED_FIELDS = 4,              /* a field is out of range */
     DESK_REFUSED_KIND = 5,                /* the unit's kind does not carry it */
-    DESK_REFUSED_TIMES = 6,               /* start, end, stamp and start mark do not go together */
+    DESK_REFUSED_TIMES = 6,               /* start, end, stamp and the marks do not go together */
     DESK_REFUSED_QUARTER_HOUR = 7,        /* end, planned start or a part's end off the quarter hour */
     DESK_REFUSED_PARTS = 8,               /* the parts do not cover the period, or there may be none: desk_part */
     DESK_REFUSED_POWER = 9,               /* a part's power is out of range */
@@ -53,7 +53,7 @@ enum {
     DESK_REFUSED_IDENTIFIER_IN_USE = 11,  /* create: a live record has this identifier */
     DESK_REFUSED_IDENTIFIER_UNKNOWN = 12, /* change, withdraw: no live record has it */
     DESK_REFUSED_OTHER_RECORD = 13,       /* type, direction or qualification differ, or the ordinal is not greater */
-    DESK_REFUSED_BEGUN = 14,              /* a begun record: start or mark changed, or withdrawn */
+    DESK_REFUSED_BEGUN = 14,              /* a begun record: start or mark changed, or withdrawn; a planned one: ended early */
     DESK_REFUSED_OVERLAP = 15,            /* a live record of its type and a meeting direction overlaps it */
     DESK_REFUSED_DERATING = 16,           /* a derating is above the unit's powers */
     DESK_REFUSED_LEVELS = 17,             /* forced work and deratings do not fit in a minute */

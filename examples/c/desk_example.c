@@ -78,7 +78,7 @@ static Report head_of(uint32_t unit, uint8_t type, uint8_t mark, uint8_t qualifi
     r.bytes[7] = CREATE;
     r.bytes[8] = GENERATION;
     r.bytes[9] = mark;
-    r.bytes[10] = PLANNED; /* the end mark is always 1 */
+    r.bytes[10] = PLANNED; /* the end mark: the end is planned */
     r.bytes[11] = qualification;
     put16(r.bytes + 12, 1);           /* ordinal */
     memset(r.bytes + 16, line, 16);   /* identifier */
