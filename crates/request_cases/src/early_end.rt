@@ -48,20 +48,15 @@ pub(crate) fn cases(register: &mut [u8], report: &mut [u8], text: &mut [u8])
 {
     say(b"A derating that ended early: from 12:00, planned to 16:00\n");
     story(register, report, text);
-    say(b"\nOther times, of the derating that has begun\n");
-    other_times(register, report, text);
-    other_stamps(register, report, text);
-    say(b"\nEnded at 14:07, but\n");
-    other_marks(register, report, text);
-    other_reports(register, report, text);
-    other_parts(register, report, text);
+    times(register, report, text);
+    fields_and_parts(register, report, text);
 }
 
-// The derating as it is created, stamped 11:50; how many bytes it has.
-fn plan(report: &mut [u8], start: u32) -> usize
+// The derating as it is created; how many bytes it has.
+fn plan(report: &mut [u8], stamp: u32, start: u32) -> usize
     ensures { λ r. ⌜ r ≤ 82 ⌝ }
 {
-    compose(report, derating_over(1, start - 10, start, start + 240))
+    compose(report, derating_over(1, stamp, start, PLANNED_END))
 }
 
 // A change of it, executed from 12:00 on.
@@ -92,7 +87,7 @@ fn story(register: &mut [u8], report: &mut [u8], text: &mut [u8])
     requires { ⌜ (length (now report) ≡ 1850) × (length (now text) ≡ 128) ⌝ }
 {
     fresh(register);
-    let size = plan(report, NOON);
+    let size = plan(report, NOON - 10, NOON);
     line(register, report, size, text, b"planned at 11:50: ");
     let size = end_early(report, SAID, ENDED);
     line(
@@ -124,6 +119,13 @@ fn begun_and_ended(register: &mut [u8], report: &mut [u8], text: &mut [u8])
         text,
         b"ended at 14:07, said at 14:10: ",
     );
+    afterwards(register, report, text);
+}
+
+fn afterwards(register: &mut [u8], report: &mut [u8], text: &mut [u8])
+    requires { ⌜ (length (now report) ≡ 1850) × (length (now text) ≡ 128) ⌝ }
+{
+    let size = end_early(report, SAID, ENDED);
     line(
         register,
         report,
@@ -131,7 +133,7 @@ fn begun_and_ended(register: &mut [u8], report: &mut [u8], text: &mut [u8])
         text,
         b"the same once more, its record has left: ",
     );
-    let size = plan(report, D + 900);
+    let size = plan(report, D + 890, D + 900);
     line(
         register,
         report,
@@ -152,7 +154,7 @@ fn running(register: &mut [u8], report: &mut [u8])
     requires { ⌜ length (now report) ≡ 1850 ⌝ }
 {
     fresh(register);
-    let size = plan(report, NOON);
+    let size = plan(report, NOON - 10, NOON);
     answer(register, report, size);
     let size = begin(report);
     answer(register, report, size);
@@ -173,7 +175,16 @@ fn ended(
     line(register, report, size, text, words);
 }
 
-fn other_times(register: &mut [u8], report: &mut [u8], text: &mut [u8])
+fn times(register: &mut [u8], report: &mut [u8], text: &mut [u8])
+    requires { ⌜ (length (now report) ≡ 1850) × (length (now text) ≡ 128) ⌝ }
+{
+    say(b"\nOther times, of the derating that has begun\n");
+    within_its_times(register, report, text);
+    outside_its_times(register, report, text);
+    other_stamps(register, report, text);
+}
+
+fn within_its_times(register: &mut [u8], report: &mut [u8], text: &mut [u8])
     requires { ⌜ (length (now report) ≡ 1850) × (length (now text) ≡ 128) ⌝ }
 {
     ended(
@@ -189,6 +200,19 @@ fn other_times(register: &mut [u8], report: &mut [u8], text: &mut [u8])
         report,
         text,
         SAID,
+        SAID,
+        b"ended when it is said: ",
+    );
+}
+
+fn outside_its_times(register: &mut [u8], report: &mut [u8], text: &mut [u8])
+    requires { ⌜ (length (now report) ≡ 1850) × (length (now text) ≡ 128) ⌝ }
+{
+    ended(
+        register,
+        report,
+        text,
+        SAID,
         NOON,
         b"ended where it started: ",
     );
@@ -197,16 +221,8 @@ fn other_times(register: &mut [u8], report: &mut [u8], text: &mut [u8])
         report,
         text,
         SAID,
-        SAID,
-        b"ended when it is said: ",
-    );
-    ended(
-        register,
-        report,
-        text,
-        SAID,
         SAID + 1,
-        b"ended a minute after that: ",
+        b"ended a minute after it is said: ",
     );
 }
 
@@ -240,6 +256,15 @@ fn other_stamps(register: &mut [u8], report: &mut [u8], text: &mut [u8])
     );
 }
 
+fn fields_and_parts(register: &mut [u8], report: &mut [u8], text: &mut [u8])
+    requires { ⌜ (length (now report) ≡ 1850) × (length (now text) ≡ 128) ⌝ }
+{
+    say(b"\nEnded at 14:07, but\n");
+    other_fields(register, report, text);
+    other_types(register, report, text);
+    other_parts(register, report, text);
+}
+
 // One byte of the report is another.
 fn with_byte(
     register: &mut [u8],
@@ -255,6 +280,21 @@ fn with_byte(
     let size = end_early(report, SAID, ENDED);
     fields::put_u8(report, at, value);
     line(register, report, size, text, words);
+}
+
+fn other_fields(register: &mut [u8], report: &mut [u8], text: &mut [u8])
+    requires { ⌜ (length (now report) ≡ 1850) × (length (now text) ≡ 128) ⌝ }
+{
+    other_marks(register, report, text);
+    other_operations(register, report, text);
+    with_byte(
+        register,
+        report,
+        text,
+        ORDINAL,
+        2,
+        b"an ordinal that is not greater: ",
+    );
 }
 
 fn other_marks(register: &mut [u8], report: &mut [u8], text: &mut [u8])
@@ -277,17 +317,9 @@ fn other_marks(register: &mut [u8], report: &mut [u8], text: &mut [u8])
         PLANNED,
         b"start mark 1, planned: ",
     );
-    with_byte(
-        register,
-        report,
-        text,
-        ORDINAL,
-        2,
-        b"an ordinal that is not greater: ",
-    );
 }
 
-fn other_reports(register: &mut [u8], report: &mut [u8], text: &mut [u8])
+fn other_operations(register: &mut [u8], report: &mut [u8], text: &mut [u8])
     requires { ⌜ (length (now report) ≡ 1850) × (length (now text) ≡ 128) ⌝ }
 {
     with_byte(
@@ -306,16 +338,21 @@ fn other_reports(register: &mut [u8], report: &mut [u8], text: &mut [u8])
         CREATE,
         b"as a creation: ",
     );
+}
+
+fn other_types(register: &mut [u8], report: &mut [u8], text: &mut [u8])
+    requires { ⌜ (length (now report) ≡ 1850) × (length (now text) ≡ 128) ⌝ }
+{
+    as_event(register, report, text);
+    as_stop(register, report, text);
     with_byte(
         register,
         report,
         text,
         TYPE,
         NEGATIVE_DERATING,
-        b"of another type: ",
+        b"of another type than its record: ",
     );
-    as_event(register, report, text);
-    as_stop(register, report, text);
 }
 
 fn as_event(register: &mut [u8], report: &mut [u8], text: &mut [u8])
@@ -375,6 +412,12 @@ fn other_parts(register: &mut [u8], report: &mut [u8], text: &mut [u8])
         ENDED - 1,
         b"its part ends at 14:06: ",
     );
+    other_powers(register, report, text);
+}
+
+fn other_powers(register: &mut [u8], report: &mut [u8], text: &mut [u8])
+    requires { ⌜ (length (now report) ≡ 1850) × (length (now text) ≡ 128) ⌝ }
+{
     with_word(
         register,
         report,
