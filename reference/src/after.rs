@@ -16,7 +16,7 @@ pub struct Outcome<'r> {
     pub leaving: [bool; SLOT_COUNT],
     /// Used slots that are not live at the report's stamp.
     pub dead: [bool; SLOT_COUNT],
-    /// The slot created, changed or withdrawn; None for an event.
+    /// The slot created, changed, withdrawn or ended early; None for an event.
     pub slot: Option<usize>,
 }
 
@@ -57,7 +57,7 @@ impl<'r> Outcome<'r> {
             }
         }
         if let Some(slot) = self.slot {
-            let stays = self.report.operation != Operation::Withdraw;
+            let stays = !self.report.empties_slot();
             after.slots[slot] = stays.then_some(self.report.record);
         }
         after
@@ -66,7 +66,7 @@ impl<'r> Outcome<'r> {
     /// "last stamp becomes the stamp; dead and closed slots become zeros; a state change sets
     /// state, qualification and since, and every other live begun stop or off-grid record of the
     /// unit leaves; a withdrawn slot becomes zeros, a change rewrites its slot, a creation takes
-    /// the lowest free one".
+    /// the lowest free one". Ended early, "the record leaves its slot".
     pub fn write(&self, block: &mut [u8]) {
         put_last_stamp(block, self.report.record.stamp);
         if let Some(row) = self.row {
@@ -79,9 +79,10 @@ impl<'r> Outcome<'r> {
         }
         if let Some(slot) = self.slot {
             let bytes = slot_bytes(block, slot);
-            match self.report.operation {
-                Operation::Withdraw => bytes.fill(0),
-                Operation::Create | Operation::Update => write_slot(bytes, &self.report.record),
+            if self.report.empties_slot() {
+                bytes.fill(0);
+            } else {
+                write_slot(bytes, &self.report.record);
             }
         }
     }

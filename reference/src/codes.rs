@@ -76,13 +76,13 @@ pub enum Direction {
     Both = 3,
 }
 
-/// The start mark.
+/// The mark of a start or of an end: "1 planned, 2 executed".
 #[derive(Clone, Copy, Debug, PartialEq, Eq)]
 #[repr(u8)]
-pub enum StartMark {
+pub enum Mark {
     /// Planned.
     Planned = 1,
-    /// Executed; such a record is begun.
+    /// Executed: a start that has begun, an end that came early.
     Actual = 2,
 }
 
@@ -103,9 +103,6 @@ pub enum EventCode {
     /// Start-up is aborted.
     Abort = 6,
 }
-
-/// "The end mark is always 1."
-pub const END_MARK: u8 = 1;
 
 /// RA to OS, the qualifications of a reported stop.
 pub const OUTAGE_QUALIFICATIONS: RangeInclusive<u8> = 1..=7;
@@ -206,7 +203,7 @@ impl Direction {
     }
 }
 
-impl StartMark {
+impl Mark {
     /// The mark with this code.
     pub fn from_code(code: u8) -> Option<Self> {
         match code {

@@ -1,6 +1,6 @@
 //! Writes roster entries and reports from fields, in range or not.
 
-use crate::codes::{Direction, Operation, RecordType, StartMark, UnitKind, END_MARK};
+use crate::codes::{Direction, Mark, Operation, RecordType, UnitKind};
 use crate::fields::{put_i32, put_u16, put_u32};
 use crate::record::MRID_SIZE;
 use crate::register::{slot, SLOT_MARK, SLOT_SIZE};
@@ -140,8 +140,8 @@ impl ReportFields {
             record_type: record_type as u8,
             operation: Operation::Create as u8,
             direction: Direction::Generation as u8,
-            start_mark: StartMark::Planned as u8,
-            end_mark: END_MARK,
+            start_mark: Mark::Planned as u8,
+            end_mark: Mark::Planned as u8,
             qualification: 0,
             revision: 1,
             mrid: [0; MRID_SIZE],
@@ -191,8 +191,24 @@ impl ReportFields {
 
     /// The same, begun.
     pub fn begun(mut self) -> Self {
-        self.start_mark = StartMark::Actual as u8;
+        self.start_mark = Mark::Actual as u8;
         self
+    }
+
+    /// The same, ended early: end mark 2, and the parts up to the end.
+    pub fn ended_early(mut self, end: u32) -> Self {
+        self.end_mark = Mark::Actual as u8;
+        self.end = end;
+        self.parts.retain(|part| part.start < end);
+        if let Some(last) = self.parts.last_mut() {
+            last.end = end;
+        }
+        self
+    }
+
+    /// Whether it carries end mark 2.
+    pub fn ends_early(&self) -> bool {
+        self.end_mark == Mark::Actual as u8
     }
 
     /// The same with a qualification.

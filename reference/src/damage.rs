@@ -4,7 +4,7 @@
 //! Two clauses can't be broken alone: a slot's start or stamp that is no time lies after its end
 //! or after the last stamp as well.
 
-use crate::codes::{Direction, RecordType, StartMark, UnitKind};
+use crate::codes::{Direction, Mark, RecordType, UnitKind};
 use crate::compose::{EntryFields, SlotFields};
 use crate::quantities::{Minute, LAST_MINUTE, MAX_POWER};
 use crate::register::{
@@ -83,7 +83,7 @@ fn record(record_type: RecordType, mrid: u8, start: u32, end: u32) -> SlotFields
             RecordType::Outage | RecordType::OffGrid => 3,
             _ => 0,
         },
-        start_mark: StartMark::Planned as u8,
+        start_mark: Mark::Planned as u8,
         revision: 5,
         mrid: [mrid; 16],
         stamp: LAST_STAMP,
@@ -99,7 +99,7 @@ fn record(record_type: RecordType, mrid: u8, start: u32, end: u32) -> SlotFields
 
 fn begun(fields: SlotFields, stamp: u32) -> SlotFields {
     SlotFields {
-        start_mark: StartMark::Actual as u8,
+        start_mark: Mark::Actual as u8,
         stamp,
         ..fields
     }

@@ -46,6 +46,7 @@ pub fn steps() -> Vec<Step> {
     steps.extend(other_units());
     steps.extend(stops());
     steps.extend(events());
+    steps.extend(early_end());
     steps
 }
 
@@ -283,6 +284,54 @@ fn events() -> Vec<Step> {
             "a derating stamped 18:30, before the unit's last stamp",
             later_derating().stamped(at(18, 30)),
             (10, 0, 0),
+        ),
+    ]
+}
+
+/// The derating up to 22:00, which began at 19:00, as its third version.
+fn begun_derating() -> ReportFields {
+    ReportFields {
+        revision: 3,
+        text: Vec::new(),
+        ..longer_derating().begun().stamped(at(20, 9))
+    }
+}
+
+/// Its end before 22:00, as its fourth version.
+fn ended_derating(end: u32) -> ReportFields {
+    ReportFields {
+        revision: 4,
+        text: b"feed pump B back".to_vec(),
+        ..begun_derating().ended_early(end).stamped(at(20, 10))
+    }
+}
+
+fn early_end() -> Vec<Step> {
+    vec![
+        step(
+            "the first derating ended at 20:07 (end mark 2), but it is only planned so far",
+            ended_derating(at(20, 7)).stamped(at(20, 8)),
+            (14, 0, 0),
+        ),
+        step(
+            "the first derating changed: it began at 19:00",
+            begun_derating(),
+            (0, 0, 0),
+        ),
+        step(
+            "its end at 20:17 (end mark 2), which has not come",
+            ended_derating(at(20, 17)),
+            (6, 0, 0),
+        ),
+        step(
+            "its end at 20:07 (end mark 2) instead of 22:00, with a text: it leaves",
+            ended_derating(at(20, 7)),
+            (0, 0, 0),
+        ),
+        step(
+            "the same end sent again: the derating is gone",
+            ended_derating(at(20, 7)),
+            (12, 0, 0),
         ),
     ]
 }

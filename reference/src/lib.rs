@@ -1,5 +1,5 @@
-//! Paper 01, the unit register, with request A1 of paper 02, written from the papers alone: an
-//! independent reference.
+//! Paper 01, the unit register, with requests A1 and A2 of paper 02, written from the papers alone:
+//! an independent reference.
 //!
 //! The modules follow the sections of paper 01. Identifiers are the field's terms; where the
 //! paper has a word of its own, the definition names it.
@@ -14,6 +14,7 @@ pub mod compose;
 pub mod cover_faults;
 pub mod cover_sample;
 pub mod damage;
+pub mod early_ends;
 pub mod evening;
 pub mod fields;
 pub mod minutes;

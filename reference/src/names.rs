@@ -1,6 +1,6 @@
 //! The codes in words. A code that the paper does not have is its number and "unknown".
 
-use crate::codes::{Direction, EventCode, Operation, RecordType, StartMark, UnitKind, UnitState};
+use crate::codes::{Direction, EventCode, Mark, Operation, RecordType, UnitKind, UnitState};
 
 /// The qualifications of a stop, from 1; the last one "stands only in a unit's row".
 const OUTAGE_LETTERS: &[&str] = &["RA", "RB", "RS", "RK", "Q", "WE", "OS", "RE"];
@@ -105,9 +105,9 @@ pub fn direction(code: u8) -> String {
 }
 
 fn mark(code: u8) -> Option<&'static str> {
-    StartMark::from_code(code).map(|mark| match mark {
-        StartMark::Planned => "planned",
-        StartMark::Actual => "executed",
+    Mark::from_code(code).map(|mark| match mark {
+        Mark::Planned => "planned",
+        Mark::Actual => "executed",
     })
 }
 
@@ -116,7 +116,7 @@ pub fn start_mark(code: u8) -> String {
     mark(code).map_or_else(|| unknown("start mark", code), str::to_string)
 }
 
-/// The end mark, which is to be planned.
+/// The end mark.
 pub fn end_mark(code: u8) -> String {
     mark(code).map_or_else(
         || unknown("end mark", code),

@@ -3,7 +3,7 @@
 //! Question 1 is in `register`, question 2 in `report`, question 3 in `processor`.
 
 use crate::codes::{Direction, EventCode, Operation, RecordType, UnitKind, UnitState};
-use crate::codes::{StartMark, END_MARK, RESERVE_SHUTDOWN};
+use crate::codes::{Mark, RESERVE_SHUTDOWN};
 use crate::fields::all_zero;
 use crate::minutes::{at_every_change_point, in_every_minute, InMinute};
 use crate::processor::Answer;
@@ -88,12 +88,14 @@ impl<'b, 'r> Case<'b, 'r> {
         case
     }
 
-    /// "A withdrawal skips 6, 7, 9 and 15–19; an event skips 9, 11–17 and 19."
+    /// "A withdrawal skips 6, 7, 9 and 15–19; an event skips 9, 11–17 and 19." Of an early end
+    /// "neither its end nor its part ends are held to quarter hours, and the overlap and power
+    /// questions 15 to 17 are passed over".
     fn asks(&self, question: u8) -> bool {
         let skipped = match (self.report.operation, self.report.record.record_type) {
             (Operation::Withdraw, _) => matches!(question, 6 | 7 | 9 | 15..=19),
             (_, RecordType::Event) => matches!(question, 9 | 11..=17 | 19),
-            _ => false,
+            _ => self.report.ends_early && matches!(question, 7 | 15..=17),
         };
         !skipped
     }
@@ -189,18 +191,19 @@ impl<'b, 'r> Case<'b, 'r> {
 
 /// "Are the fields in range: those above, times (parts' too), ordinal 1–9,999, operation 1 and
 /// identifier zero for an event, event code 1–6 as qualification, qualification 0 for types 2–4?"
-/// The report with its types, if they are.
+/// "end mark 2 on an event or a withdrawal is 4". The report with its types, if they are.
 pub fn question_4_fields_in_range(stated: WholeReport) -> Option<Report> {
     let operation = Operation::from_code(stated.byte(head::OPERATION))?;
+    let ends_early = Mark::from_code(stated.byte(head::END_MARK))? == Mark::Actual;
     let record = stated.record()?;
     let event_fits = record.record_type != RecordType::Event
-        || (operation == Operation::Create && all_zero(&record.mrid));
+        || (operation == Operation::Create && all_zero(&record.mrid) && !ends_early);
+    let withdrawal_fits = operation != Operation::Withdraw || !ends_early;
     let parts = stated.part_findings(record.stamp, record.period);
-    let in_range = event_fits
-        && stated.byte(head::END_MARK) == END_MARK
-        && Minute::from_count(parts.latest).is_some();
+    let in_range = event_fits && withdrawal_fits && Minute::from_count(parts.latest).is_some();
     in_range.then_some(Report {
         operation,
+        ends_early,
         record,
         parts,
     })
@@ -240,12 +243,26 @@ pub fn question_6_times(case: &Case) -> bool {
     if case.is_event() {
         return record.begun() && start <= record.stamp && end == start;
     }
+    if case.report.ends_early {
+        return early_end_is_honest(&case.report);
+    }
     let mark_fits = match record.start_mark {
-        StartMark::Planned => start > record.stamp,
-        StartMark::Actual => start <= record.stamp,
+        Mark::Planned => start > record.stamp,
+        Mark::Actual => start <= record.stamp,
     };
     let off_grid_fits = record.record_type != RecordType::OffGrid || record.begun();
     start < end && end > record.stamp && mark_fits && off_grid_fits
+}
+
+/// "A change to a begun record of types 2 to 4 may carry end mark 2, with start < end ≤ stamp."
+fn early_end_is_honest(report: &Report) -> bool {
+    let record = &report.record;
+    let Period { start, end } = record.period;
+    report.operation == Operation::Update
+        && record.record_type.has_parts()
+        && record.begun()
+        && start < end
+        && end <= record.stamp
 }
 
 /// "For types 1–5, are end, a planned start and every part end after the stamp multiples of 15
@@ -309,16 +326,24 @@ pub fn question_13_same_record(case: &Case) -> bool {
     })
 }
 
-/// "Change of a begun (mark 2) record: same start and mark? Withdrawal: not begun?"
+/// "Change of a begun (mark 2) record: same start and mark? Withdrawal: not begun?" For end mark
+/// 2, "where the record in the slot has not begun it is 14".
 pub fn question_14_begun(case: &Case) -> bool {
-    let record = &case.report.record;
-    case.named_record()
-        .filter(|named| named.begun())
-        .is_none_or(|named| {
-            case.report.operation == Operation::Update
+    let Report {
+        operation,
+        ends_early,
+        record,
+        ..
+    } = &case.report;
+    case.named_record().is_none_or(|named| {
+        if named.begun() {
+            *operation == Operation::Update
                 && record.period.start == named.period.start
                 && record.start_mark == named.start_mark
-        })
+        } else {
+            !ends_early
+        }
+    })
 }
 
 /// "Does no other live record of its type with a meeting direction overlap it?" But for those

@@ -1,6 +1,6 @@
 //! A record: what a slot holds and what a report of types 1 to 5 carries.
 
-use crate::codes::{Direction, RecordType, StartMark};
+use crate::codes::{Direction, Mark, RecordType};
 use crate::fields::{put_u32, u32_at};
 use crate::quantities::{Kilowatt, Minute, Period};
 use crate::register::slot;
@@ -40,7 +40,7 @@ pub struct Record<'a> {
     /// The reason, or an event's code.
     pub qualification: u8,
     /// Planned, or executed (begun).
-    pub start_mark: StartMark,
+    pub start_mark: Mark,
     /// The ordinal.
     pub revision: u16,
     /// The identifier.
@@ -112,7 +112,7 @@ impl<'a> Parts<'a> {
 impl Record<'_> {
     /// "begun (mark 2)".
     pub fn begun(&self) -> bool {
-        self.start_mark == StartMark::Actual
+        self.start_mark == Mark::Actual
     }
 
     /// Same type, meeting directions, a minute in common: what question 1 forbids of two slots

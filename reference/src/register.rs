@@ -1,6 +1,6 @@
 //! The register: one block to a unit, a head and eight slots; question 1.
 
-use crate::codes::{Direction, RecordType, StartMark};
+use crate::codes::{Direction, Mark, RecordType};
 use crate::fields::{all_zero, put_u16, put_u32, u16_at, u32_at};
 use crate::quantities::{Minute, Period, MAX_POWER};
 use crate::questions::question_5_kind_carries;
@@ -215,7 +215,7 @@ fn decode_slot(bytes: &[u8; SLOT_SIZE]) -> Option<Record<'_>> {
         direction: Direction::from_code(bytes[slot::DIRECTION])?,
         qualification: Some(bytes[slot::QUALIFICATION])
             .filter(|&code| record_type.allows_qualification(code))?,
-        start_mark: StartMark::from_code(bytes[slot::START_MARK])?,
+        start_mark: Mark::from_code(bytes[slot::START_MARK])?,
         revision: Some(u16_at(bytes, slot::REVISION))
             .filter(|revision| REVISIONS.contains(revision))?,
         mrid,

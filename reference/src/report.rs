@@ -1,6 +1,6 @@
 //! The report: head, parts, text; question 2.
 
-use crate::codes::{Direction, Operation, RecordType, StartMark};
+use crate::codes::{Direction, Mark, Operation, RecordType};
 use crate::fields::{all_zero, i32_at, u16_at, u32_at};
 use crate::quantities::{Minute, Period};
 use crate::record::{Cover, Parts, Record, MAX_PARTS, MRID_SIZE};
@@ -97,10 +97,19 @@ pub struct StatedPart {
 pub struct Report<'a> {
     /// Create, change, withdraw.
     pub operation: Operation,
+    /// End mark 2: "a derating that ended early".
+    pub ends_early: bool,
     /// The rest; an event's record has no parts and stands in no slot.
     pub record: Record<'a>,
     /// What the questions ask of the parts.
     pub parts: PartFindings,
+}
+
+impl Report<'_> {
+    /// Whether the record leaves its slot: withdrawn, or ended early.
+    pub fn empties_slot(&self) -> bool {
+        self.operation == Operation::Withdraw || self.ends_early
+    }
 }
 
 /// What questions 4, 7, 8, 9 and 16 ask of a report's parts, found in one pass.
@@ -229,7 +238,7 @@ impl<'a> WholeReport<'a> {
             direction: Direction::from_code(self.byte(head::DIRECTION))?,
             qualification: Some(self.byte(head::QUALIFICATION))
                 .filter(|&code| record_type.allows_qualification(code))?,
-            start_mark: StartMark::from_code(self.byte(head::START_MARK))?,
+            start_mark: Mark::from_code(self.byte(head::START_MARK))?,
             revision: Some(u16_at(self.head, head::REVISION))
                 .filter(|revision| REVISIONS.contains(revision))?,
             mrid: self.mrid(),

@@ -13,7 +13,9 @@ use crate::report::MAX_TEXT;
 use crate::roster::ENTRY_SIZE;
 use crate::setup::set_up;
 use crate::shift_log::LOG_ENTRIES;
-use crate::worked_examples::{bench_findings, examples, roster_a, roster_a_reports, Example, D};
+use crate::worked_examples::{
+    bench_findings, early_ends, examples, roster_a, roster_a_reports, Example, D,
+};
 
 /// A name and its bytes.
 pub struct Sample {
@@ -68,10 +70,14 @@ pub fn samples() -> Vec<Sample> {
     let found = bench_findings()
         .into_iter()
         .map(|example| ("finding", example));
+    let ended = early_ends()
+        .into_iter()
+        .map(|example| ("early-end", example));
     fixed
         .chain(
             worked
                 .chain(found)
+                .chain(ended)
                 .map(|(group, example)| of_example(group, &example)),
         )
         .collect()

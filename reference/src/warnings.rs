@@ -1,7 +1,7 @@
 //! The warnings, "added up, judge only the reported record, 1 to 4 against the block afterwards".
 
 use crate::after::Outcome;
-use crate::codes::{Operation, RecordType, UnitKind};
+use crate::codes::{RecordType, UnitKind};
 use crate::minutes::{at_every_change_point, in_every_minute, InMinute};
 use crate::record::Record;
 use crate::register::Block;
@@ -15,11 +15,11 @@ pub const LEVEL_BELOW: u8 = 4;
 /// "a reported stop made another live begun stop or off-grid record leave".
 pub const MADE_LEAVE: u8 = 8;
 
-/// The warnings of an accepted report; "events and withdrawals carry 0".
+/// The warnings of an accepted report; "events and withdrawals carry 0", and of an early end "the
+/// answer carries warnings 0".
 pub fn warnings(outcome: &Outcome, after: &Block) -> u8 {
     let record = &outcome.report.record;
-    let carries_none =
-        outcome.report.operation == Operation::Withdraw || record.record_type == RecordType::Event;
+    let carries_none = outcome.report.empties_slot() || record.record_type == RecordType::Event;
     if carries_none {
         return 0;
     }

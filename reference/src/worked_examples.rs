@@ -1,6 +1,7 @@
-//! The worked examples of the paper: roster A, its log, the reports on it, the bench findings.
+//! The worked examples of the paper: roster A, its log, the reports on it, the bench findings; and
+//! early ends, sentence by sentence.
 
-use crate::codes::{RecordType, UnitKind, UnitState};
+use crate::codes::{Mark, Operation, RecordType, UnitKind, UnitState};
 use crate::compose::{EntryFields, ReportFields};
 use crate::processor::Answer;
 
@@ -301,5 +302,138 @@ fn dead_slots() -> Example {
     let reused = derating_from(D + 240, D + 300).stamped(D + 180).named(1);
     example.reports.push(reused.bytes());
     example.answers.push(Answer::accepted(0));
+    example
+}
+
+/// The derating, begun at D+5, as an ordinary creation.
+fn begun_derating() -> ReportFields {
+    derating_from(D + 5, D + 120).begun()
+}
+
+/// Its early end at D+67, stamp D+70.
+fn early_end() -> ReportFields {
+    ReportFields {
+        operation: Operation::Update as u8,
+        revision: 2,
+        ..begun_derating().ended_early(D + 67).stamped(D + 70)
+    }
+}
+
+/// The early end with one thing changed.
+fn early_end_with(change: impl Fn(&mut ReportFields)) -> ReportFields {
+    let mut report = early_end();
+    change(&mut report);
+    report
+}
+
+/// A record and a report on it, of one identifier; the record is accepted.
+fn on_record(
+    name: &'static str,
+    record: ReportFields,
+    report: ReportFields,
+    (number, warnings, part): (u8, u8, u8),
+) -> Example {
+    let answer = Answer {
+        number,
+        warnings,
+        part,
+    };
+    Example {
+        name,
+        starred: false,
+        reports: [record, report]
+            .map(|report| report.named(1).bytes())
+            .to_vec(),
+        answers: vec![Answer::accepted(0), answer],
+    }
+}
+
+/// "A derating that ended early", each on a begun derating of 20,000 from D+5 to D+120.
+pub fn early_ends() -> Vec<Example> {
+    let on_derating = |name, report, answer| on_record(name, begun_derating(), report, answer);
+    let mut examples = vec![
+        on_derating("accepted", early_end(), (0, 0, 0)),
+        ended_and_created_again(),
+    ];
+    examples.extend(
+        marks_and_times().map(|(name, report, number)| on_derating(name, report, (number, 0, 0))),
+    );
+    examples.extend([
+        on_derating(
+            "part-past-the-end",
+            early_end_with(|report| report.parts[0].end = D + 68),
+            (8, 0, 1),
+        ),
+        on_derating(
+            "list-short-of-the-end",
+            early_end_with(|report| report.parts[0].end = D + 66),
+            (8, 0, 1),
+        ),
+        on_derating("above-p-max", early_end().at(200_001), (0, 0, 0)),
+        on_record(
+            "planned-in-its-slot",
+            derating(),
+            early_end_with(|report| (report.start, report.parts[0].start) = (D + 60, D + 60)),
+            (14, 0, 0),
+        ),
+        on_record(
+            "forced-work",
+            begun_level(),
+            early_end_with(|report| report.record_type = RecordType::MustRun as u8).at(200_001),
+            (0, 0, 0),
+        ),
+    ]);
+    examples
+}
+
+fn begun_level() -> ReportFields {
+    must_run(180_000).begun().over(D + 5, D + 120).at(180_000)
+}
+
+/// Names, reports and the numbers that they get.
+fn marks_and_times() -> [(&'static str, ReportFields, u8); 10] {
+    let ending_at = |end| early_end().over(D + 5, end).at(20_000);
+    let with_mark = |mark| early_end_with(|report| report.end_mark = mark);
+    [
+        ("end-mark-0", with_mark(0), 4),
+        ("end-mark-1", with_mark(1), 6),
+        ("end-mark-3", with_mark(3), 4),
+        (
+            "withdrawal",
+            early_end_with(|report| {
+                report.operation = Operation::Withdraw as u8;
+                report.parts.clear();
+            }),
+            4,
+        ),
+        (
+            "creation",
+            early_end_with(|report| report.operation = Operation::Create as u8),
+            6,
+        ),
+        (
+            "start-mark-1",
+            early_end_with(|report| report.start_mark = Mark::Planned as u8),
+            6,
+        ),
+        ("at-the-stamp", ending_at(D + 70), 0),
+        ("after-the-stamp", ending_at(D + 71), 6),
+        ("a-minute-long", ending_at(D + 6), 0),
+        ("at-the-start", ending_at(D + 5), 6),
+    ]
+}
+
+/// The identifier is free again, with ordinal 1; ended once more it is not there.
+fn ended_and_created_again() -> Example {
+    let created = || derating_from(D + 60, D + 120).begun().stamped(D + 70);
+    let mut example = on_record("created-again", begun_derating(), early_end(), (0, 0, 0));
+    for (report, answer) in [
+        (early_end(), Answer::refusal(12)),
+        (created(), Answer::accepted(0)),
+        (created(), Answer::refusal(11)),
+    ] {
+        example.reports.push(report.named(1).bytes());
+        example.answers.push(answer);
+    }
     example
 }

@@ -2,7 +2,7 @@
 
 use super::Pace;
 use crate::codes::{
-    Direction, EventCode, Operation, RecordType, StartMark, UnitKind, OFF_GRID_QUALIFICATIONS,
+    Direction, EventCode, Mark, Operation, RecordType, UnitKind, OFF_GRID_QUALIFICATIONS,
     OUTAGE_QUALIFICATIONS,
 };
 use crate::compose::ReportFields;
@@ -58,13 +58,12 @@ impl<'d> Draft<'d> {
     /// The report.
     pub(super) fn report(&mut self) -> ReportFields {
         let is_w1 = self.block.unit.kind == UnitKind::W1;
-        let mut fields = match self
-            .random
-            .weighted(&[52, 25, 8, if is_w1 { 15 } else { 0 }])
-        {
+        let events = if is_w1 { 15 } else { 0 };
+        let mut fields = match self.random.weighted(&[52, 25, 8, 15, events]) {
             0 => self.creation(),
             1 => self.update(),
             2 => self.withdrawal(),
+            3 => self.early_end(),
             _ => self.event(),
         };
         fields.text = self.text();
@@ -219,11 +218,7 @@ impl<'d> Draft<'d> {
     fn put_period(&mut self, fields: &mut ReportFields, record_type: RecordType, begun: bool) {
         let peers = self.peers(fields, record_type);
         let partners = self.partners(fields, record_type);
-        fields.start_mark = if begun {
-            StartMark::Actual
-        } else {
-            StartMark::Planned
-        } as u8;
+        fields.start_mark = if begun { Mark::Actual } else { Mark::Planned } as u8;
         fields.start = if begun {
             self.begun_start(record_type, &peers)
         } else {
@@ -439,9 +434,13 @@ impl<'d> Draft<'d> {
         self.random.pick(&list).min(MAX_POWER.0)
     }
 
-    /// The fields of a live record, now and then of a dead or a former one.
-    fn of_record(&mut self, operation: Operation) -> (ReportFields, Option<Record<'d>>) {
-        let (live, dead) = (self.records(true), self.records(false));
+    /// The fields of one of some live records, now and then of a dead one.
+    fn of_record(
+        &mut self,
+        operation: Operation,
+        live: Vec<Record<'d>>,
+    ) -> (ReportFields, Option<Record<'d>>) {
+        let dead = self.records(false);
         let choice = self.random.below(20);
         let from = if choice < 17 || dead.is_empty() {
             live
@@ -473,7 +472,7 @@ impl<'d> Draft<'d> {
     }
 
     fn update(&mut self) -> ReportFields {
-        let (mut fields, record) = self.of_record(Operation::Update);
+        let (mut fields, record) = self.of_record(Operation::Update, self.records(true));
         let Some(record) = record else {
             return fields;
         };
@@ -495,8 +494,58 @@ impl<'d> Draft<'d> {
         fields
     }
 
+    /// Of a record that can end early; now and then of another, which then is wrong.
+    fn early_end(&mut self) -> ReportFields {
+        let stamp = self.stamp;
+        let can_end = |record: &Record| {
+            record.begun() && record.record_type.has_parts() && record.period.start.0 < stamp
+        };
+        let mut live = self.records(true);
+        if self.random.percent(80) {
+            live.retain(can_end);
+        }
+        if live.is_empty() {
+            return self.update();
+        }
+        let (mut fields, record) = self.of_record(Operation::Update, live);
+        let Some(record) = record else {
+            return fields;
+        };
+        if self.random.percent(70) {
+            fields.start_mark = Mark::Actual as u8;
+        }
+        fields.end_mark = Mark::Actual as u8;
+        fields.start = self.ended_start(record.period.start.0);
+        fields.end = self.early_minute(fields.start, record.period.end.0);
+        self.put_parts(&mut fields, record.record_type);
+        fields
+    }
+
+    /// The stored start as a rule; where it is to come, half the time one that has passed.
+    fn ended_start(&mut self, stored: u32) -> u32 {
+        let to_come = stored >= self.stamp;
+        match self.random.below(40) {
+            0 => stored + 1,
+            1 => stored.saturating_sub(1),
+            2..=20 if to_come => self.stamp.saturating_sub(self.random.between(1..=60)),
+            _ => stored,
+        }
+    }
+
+    /// An end after the start and not after the stamp, now and then another.
+    fn early_minute(&mut self, start: u32, stored_end: u32) -> u32 {
+        let stamp = self.stamp;
+        match self.random.below(12) {
+            0 => self.random.pick(&[stamp + 1, start, stored_end]),
+            1 => start + 1,
+            2 | 3 => stamp,
+            _ if start < stamp => self.random.between(start + 1..=stamp),
+            _ => stamp,
+        }
+    }
+
     fn withdrawal(&mut self) -> ReportFields {
-        let (mut fields, _) = self.of_record(Operation::Withdraw);
+        let (mut fields, _) = self.of_record(Operation::Withdraw, self.records(true));
         if fields.operation == Operation::Create as u8 {
             return fields;
         }

@@ -1,7 +1,7 @@
 //! Random registers: whole ones that reports need not lead to, and damaged ones.
 
 use super::rosters::entry;
-use crate::codes::{Direction, RecordType, StartMark, UnitKind};
+use crate::codes::{Direction, Mark, RecordType, UnitKind};
 use crate::fields::{put_u16, put_u32, u16_at, u32_at};
 use crate::quantities::{Kilowatt, Minute, Period, LAST_MINUTE, MAX_POWER};
 use crate::random::Random;
@@ -85,8 +85,8 @@ fn free_record(
 ) -> (Record<'static>, Vec<Pair>) {
     let record_type = free_type(random, unit.kind);
     let start_mark = match record_type {
-        RecordType::OffGrid => StartMark::Actual,
-        _ => random.pick(&[StartMark::Planned, StartMark::Actual]),
+        RecordType::OffGrid => Mark::Actual,
+        _ => random.pick(&[Mark::Planned, Mark::Actual]),
     };
     let stamp = Minute(last_stamp.0.saturating_sub(random.below(60)));
     let record = Record {
@@ -109,10 +109,10 @@ fn free_record(
 }
 
 /// "begun start ≤ slot stamp", "start < end"; nothing more.
-fn free_period(random: &mut Random, start_mark: StartMark, stamp: Minute) -> Period {
+fn free_period(random: &mut Random, start_mark: Mark, stamp: Minute) -> Period {
     let start = match start_mark {
-        StartMark::Actual => stamp.0.saturating_sub(random.below(200)),
-        StartMark::Planned => (stamp.0 + random.below(600)).saturating_sub(100),
+        Mark::Actual => stamp.0.saturating_sub(random.below(200)),
+        Mark::Planned => (stamp.0 + random.below(600)).saturating_sub(100),
     };
     let start = start.min(LAST_MINUTE.0 - 1);
     let length = if random.percent(30) {

@@ -1,6 +1,7 @@
 //! Small changes meant to spoil a report, or to bring it to an edge.
 
 use super::uncovered::spoil_cover;
+use crate::codes::{Mark, Operation};
 use crate::compose::{PartFields, ReportFields};
 use crate::quantities::{LAST_MINUTE, MAX_POWER};
 use crate::random::Random;
@@ -10,7 +11,10 @@ use crate::report::{head, HEAD_SIZE, MAX_TEXT, PART_SIZE};
 
 /// Changes one thing of a report.
 pub(super) fn spoil(random: &mut Random, block: &Block, units: u32, fields: &mut ReportFields) {
-    match random.below(10) {
+    if fields.ends_early() && random.percent(40) {
+        return spoil_early_end(random, block, fields);
+    }
+    match random.below(11) {
         0 => spoil_unit(random, units, fields),
         1 => spoil_code(random, fields),
         2 | 3 => spoil_time(random, block, fields),
@@ -18,6 +22,7 @@ pub(super) fn spoil(random: &mut Random, block: &Block, units: u32, fields: &mut
         5 => spoil_cover(random, fields),
         6 => spoil_power(random, fields),
         7 | 8 => spoil_kind(random, fields),
+        9 => spoil_early_end(random, block, fields),
         _ => spoil_mrid(random, block, fields),
     }
 }
@@ -38,6 +43,39 @@ fn spoil_kind(random: &mut Random, fields: &mut ReportFields) {
     }
 }
 
+/// End mark 2 where it is not expected; an early end as what can't end early, or at another time.
+fn spoil_early_end(random: &mut Random, block: &Block, fields: &mut ReportFields) {
+    if !fields.ends_early() {
+        fields.end_mark = Mark::Actual as u8;
+        return;
+    }
+    match random.below(10) {
+        0 => fields.operation = Operation::Create as u8,
+        1 => {
+            fields.operation = Operation::Withdraw as u8;
+            fields.parts.clear();
+        }
+        2 => fields.start_mark = Mark::Planned as u8,
+        3 => fields.end_mark = random.pick(&[0, 1, 3, 18, 255]),
+        4 => fields.revision = random.between(1..=2) as u16,
+        5 => {
+            (fields.record_type, fields.qualification) = random.pick(&[(1, 1), (5, 1)]);
+            fields.parts.clear();
+        }
+        6 => fields.record_type = random.pick(&[2, 3, 4]),
+        7 => fields.direction = if fields.direction == 1 { 2 } else { 1 },
+        8 => {
+            let stamp = block.last_stamp.0.saturating_sub(random.between(1..=5));
+            let end = fields.end.min(stamp);
+            *fields = fields.clone().ended_early(end).stamped(stamp);
+        }
+        _ => {
+            let ends = [fields.stamp + 1, fields.start, fields.start + 1];
+            *fields = fields.clone().ended_early(random.pick(&ends));
+        }
+    }
+}
+
 fn spoil_unit(random: &mut Random, units: u32, fields: &mut ReportFields) {
     let beyond = (units + 1) as u16;
     match random.below(4) {
@@ -54,7 +92,7 @@ fn spoil_code(random: &mut Random, fields: &mut ReportFields) {
         1 => fields.operation = random.pick(&[0, 1, 2, 3, 4, 255]),
         2 => fields.direction = random.pick(&[0, 1, 2, 3, 4, 255]),
         3 => fields.start_mark = random.pick(&[0, 1, 2, 3, 255]),
-        4 => fields.end_mark = random.pick(&[0, 2, 17, 255]),
+        4 => fields.end_mark = random.pick(&[0, 2, 3, 17, 255]),
         5 => fields.qualification = random.pick(&[0, 1, 5, 6, 7, 8, 9, 255]),
         _ => fields.revision = random.pick(&[0, 1, 9_999, 10_000, u16::MAX]),
     }

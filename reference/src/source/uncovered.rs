@@ -24,7 +24,11 @@ pub(super) fn spoil_cover(random: &mut Random, fields: &mut ReportFields) {
         fields.parts.clear();
     } else {
         if random.percent(75) {
-            fields.parts = spread(random, fields, count);
+            fields.parts = if fields.ends_early() {
+                past_minutes(fields, count)
+            } else {
+                spread(random, fields, count)
+            };
             fields.end = fields.parts.last().map_or(fields.end, |last| last.end);
         }
         break_cover(random, fields);
@@ -43,6 +47,12 @@ fn part_count(random: &mut Random) -> usize {
 fn quarter_hours(start: u32, count: usize) -> Vec<PartFields> {
     let ends = (quarter_after(start)..).step_by(QUARTER as usize);
     one_after_another(start, ends.take(count).map(|end| end.min(LAST_QUARTER)))
+}
+
+/// Parts of a minute each from the report's start on, up to the stamp: those of an early end.
+fn past_minutes(fields: &ReportFields, count: usize) -> Vec<PartFields> {
+    let ends = fields.start + 1..=fields.stamp;
+    one_after_another(fields.start, ends.take(count))
 }
 
 /// Parts that cover a period from the report's start on; those up to the stamp end at any minute.
@@ -76,6 +86,7 @@ fn one_after_another(start: u32, ends: impl Iterator<Item = u32>) -> Vec<PartFie
 /// The list as a whole, or one part of it.
 fn break_cover(random: &mut Random, fields: &mut ReportFields) {
     match random.below(6) {
+        0 if fields.ends_early() => fields.end = fields.stamp.max(fields.end),
         0 => fields.end = (fields.end + QUARTER * random.between(1..=3)).min(LAST_QUARTER),
         1 => leave_parts_over(random, fields),
         _ => break_part(random, fields),
@@ -85,12 +96,8 @@ fn break_cover(random: &mut Random, fields: &mut ReportFields) {
 /// The period ends with some part, those after it are left over.
 fn leave_parts_over(random: &mut Random, fields: &mut ReportFields) {
     if let [first @ .., _] = fields.parts.as_slice() {
-        let after_stamp = |part: &&PartFields| part.end > fields.stamp;
-        let ends: Vec<u32> = first
-            .iter()
-            .filter(after_stamp)
-            .map(|part| part.end)
-            .collect();
+        let may_end = |part: &&PartFields| fields.ends_early() || part.end > fields.stamp;
+        let ends: Vec<u32> = first.iter().filter(may_end).map(|part| part.end).collect();
         if let Some(last) = ends.last() {
             fields.end = if random.percent(50) {
                 *last

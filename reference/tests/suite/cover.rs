@@ -242,7 +242,8 @@ fn other_refusals_name_0() {
     let of = |change: &dyn Fn(&mut ReportFields)| given(&with(broken(), change));
     assert_eq!(of(&|_| ()), (8, 57));
     assert_eq!(of(&|fields| fields.owner = 9), (3, 0));
-    assert_eq!(of(&|fields| fields.end_mark = 2), (4, 0));
+    assert_eq!(of(&|fields| fields.end_mark = 3), (4, 0));
+    assert_eq!(of(&|fields| fields.end_mark = 2), (6, 0));
     assert_eq!(of(&|fields| fields.parts[88].end = 26_298_720), (4, 0));
     assert_eq!(of(&|fields| fields.direction = 2), (5, 0));
     assert_eq!(of(&|fields| fields.stamp = START), (6, 0));

@@ -2,6 +2,7 @@
 
 use reference::codes::{Direction, Operation, RecordType, UnitKind};
 use reference::cover_faults::{cover_fault, KINDS};
+use reference::early_ends::{self, early_end_kinds};
 use reference::quantities::{Kilowatt, Minute, LAST_MINUTE};
 use reference::questions::{question_17_level_limits, question_4_fields_in_range, Case};
 use reference::random::Random;
@@ -412,20 +413,30 @@ fn note_cover(table: &mut Table, report: &WholeReport, answer: Answer) {
     }
 }
 
+/// The kinds of early end that the report was of; none that can't be.
+fn note_early_ends(table: &mut Table, before: &[u8], report: &[u8], answer: Answer) {
+    let given = (answer.number.into(), answer.warnings.into());
+    let kinds = early_end_kinds(before, report, given);
+    let impossible = kinds.iter().find(|kind| early_ends::NEVER.contains(kind));
+    assert_eq!(impossible, None, "{report:?}");
+    for kind in early_ends::KINDS {
+        table.note(kind, kinds.contains(&kind));
+    }
+}
+
 /// Answers a report, counts the answer and notes what it met.
 fn see(table: &mut Table, register: &mut [u8], report: &[u8]) -> Answer {
     let before = register.to_vec();
     let given = answer(register, report);
     table.count(given);
     assert!(given.number == 0 || before == register, "a refusal wrote");
+    note_early_ends(table, &before, report, given);
     let whole = question_2_report_whole(report);
     if let Some(whole) = &whole {
         note_cover(table, whole, given);
     }
-    let typed = whole
-        .filter(|_| given.number != 1)
-        .filter(|_| given.number != 3)
-        .and_then(|whole| Some((whole.unit(), question_4_fields_in_range(whole)?)));
+    let judged = whole.filter(|_| !matches!(given.number, 1 | 3));
+    let typed = judged.and_then(|whole| Some((whole.unit(), question_4_fields_in_range(whole)?)));
     if let Some((unit, typed)) = typed {
         let at = (usize::from(unit) - 1) * BLOCK_SIZE;
         let block = Block::read(&before[at..at + BLOCK_SIZE]).unwrap();
@@ -455,16 +466,24 @@ fn see(table: &mut Table, register: &mut [u8], report: &[u8]) -> Answer {
 
 fn run_stream(table: &mut Table, mut source: Source, reports: usize) {
     let mut register = source.register().to_vec();
-    let mut created = HashSet::new();
+    let (mut created, mut ended) = (HashSet::new(), HashSet::new());
     for _ in 0..reports {
         let report = source.whole_or_broken_report();
         let whole = question_2_report_whole(&report).is_some();
         if whole {
             let given = see(table, &mut register, &report);
             assert!(question_1_register_whole(&register));
-            let creates = given.number == 0 && report[7] == Operation::Create as u8;
-            let anew = creates && report[6] != 6 && !created.insert(report[16..32].to_vec());
+            let is_creation = report[7] == Operation::Create as u8 && report[6] != 6;
+            let creates = given.number == 0 && is_creation;
+            let anew = creates && !created.insert(report[16..32].to_vec());
             table.note("identifier reused", anew);
+            let named = report[2..4].iter().chain(&report[16..32]).copied();
+            let named: Vec<u8> = named.collect();
+            let again = creates && ended.remove(&named);
+            table.note("identifier of an early end created again", again);
+            if given.number == 0 && report[10] == 2 {
+                ended.insert(named);
+            }
             assert_eq!(register, source.register());
         } else {
             // The source has moved on with the report it broke.

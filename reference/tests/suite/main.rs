@@ -5,6 +5,7 @@ mod command_line;
 mod compare_logs;
 mod cover;
 mod coverage;
+mod early_end;
 mod given_registers;
 mod minutes;
 mod question_1;

@@ -76,7 +76,7 @@ fn question_4_codes() {
     for code in [0, 3, 255] {
         assert_eq!(changed(|fields| fields.start_mark = code), 4);
     }
-    for code in [0, 2, 17] {
+    for code in [0, 3, 17, 255] {
         assert_eq!(changed(|fields| fields.end_mark = code), 4);
     }
     for revision in [0, 10_000, u16::MAX] {
@@ -875,7 +875,7 @@ fn the_first_no_is_the_answer() {
     let mut report = of_type(W1, RecordType::PositiveDerating)
         .over(D + 61, D + 55)
         .at(-1);
-    (report.unit, report.end_mark, report.direction) = (9, 2, 2);
+    (report.unit, report.end_mark, report.direction) = (9, 3, 2);
     (report.stamp, report.operation) = (D - 1, 2);
     let mut register = TestRegister::new();
     let mut next = |report: &ReportFields, number| {

@@ -2,7 +2,7 @@
 
 use reference::register::{question_1_register_whole, BLOCK_SIZE};
 use reference::worked_examples::{
-    bench_findings, examples, roster_a, roster_a_reports, Example, ROSTER_A_LOG,
+    bench_findings, early_ends, examples, roster_a, roster_a_reports, Example, ROSTER_A_LOG,
 };
 use reference::{answer, set_up, shift_log};
 
@@ -37,6 +37,11 @@ fn worked_examples() {
 #[test]
 fn bench_findings_ruled_out() {
     bench_findings().iter().for_each(check);
+}
+
+#[test]
+fn early_ends_sentence_by_sentence() {
+    early_ends().iter().for_each(check);
 }
 
 #[test]

@@ -1,12 +1,14 @@
 //! Times the proved desk beside the reference, in one process and on the same inputs.
 
 use desk_comparison::{reference_answer, Answer};
-use reference::codes::{Direction, Operation, RecordType, StartMark, UnitKind};
+use reference::codes::{Direction, Mark, Operation, RecordType, UnitKind};
 use reference::compose::{EntryFields, ReportFields, SlotFields};
 use reference::fields::put_u16;
-use reference::quantities::QUARTER;
+use reference::quantities::{Minute, QUARTER};
 use reference::record::MAX_PARTS;
-use reference::register::{head, BLOCK_SIZE, HEAD_SIZE, MAX_UNITS, SLOT_SIZE};
+use reference::register::{
+    head, put_last_stamp, slot_bytes, BLOCK_SIZE, HEAD_SIZE, MAX_UNITS, SLOT_SIZE,
+};
 use reference::roster::{read_entry, ENTRY_SIZE};
 use reference::source::Source;
 use reference::worked_examples::D;
@@ -131,7 +133,7 @@ fn record(record_type: RecordType, mrid: u8, offset: u32, pairs: Vec<(u32, u32)>
         record_type: record_type as u8,
         direction: Direction::Generation as u8,
         qualification: 0,
-        start_mark: StartMark::Planned as u8,
+        start_mark: Mark::Planned as u8,
         revision: 1,
         mrid: [mrid; 16],
         stamp: D,
@@ -219,6 +221,37 @@ fn uncovered(late_part: u32) -> Load {
     Load {
         register: free_register(1),
         reports: vec![fields.bytes(); REPORTS],
+    }
+}
+
+/// The first derating of a full block, begun at START, ends 8 minutes early, at the stamp; all of
+/// its parts but the last are as they are stored.
+fn early_end(parts: u32) -> Load {
+    let stored = SlotFields {
+        start_mark: Mark::Actual as u8,
+        stamp: START,
+        ..full_slots(parts).swap_remove(0)
+    };
+    let mut register = full_register(1, parts);
+    put_last_stamp(&mut register, Minute(START));
+    slot_bytes(&mut register, 0).copy_from_slice(&stored.bytes());
+    let powers: Vec<(u32, i32)> = stored
+        .pairs
+        .iter()
+        .map(|&(end, power)| (end, power as i32))
+        .collect();
+    let end = stored.end - 8;
+    let mut fields = ReportFields::creation(1, OWNER, RecordType::PositiveDerating)
+        .begun()
+        .over(START, stored.end)
+        .stepping(&powers)
+        .ended_early(end)
+        .stamped(end)
+        .named(stored.mrid[0]);
+    (fields.operation, fields.revision) = (Operation::Update as u8, 2);
+    Load {
+        register,
+        reports: vec![fields.bytes()],
     }
 }
 
@@ -351,6 +384,16 @@ fn print_uncovered() -> Option<()> {
     Some(())
 }
 
+/// A begun derating of one part and of a hundred, ended early.
+fn print_early_ends() -> Option<()> {
+    for parts in [1, MOST_PARTS] {
+        let name = format!("(h) 1 unit, full, early end, parts: {parts}");
+        let rates = checked_rates(&name, &early_end(parts), Some(CLEAN))?;
+        print_micros(&name, rates);
+    }
+    Some(())
+}
+
 fn bench() -> Option<()> {
     print_head("reports per second");
     print_rates("(a) 2 units, ordinary stream", &stream(2), None)?;
@@ -370,7 +413,8 @@ fn bench() -> Option<()> {
     print_head("µs a report");
     print_growth_by_parts("(e) 1 unit, forced work", FAR, &[1, 10, MOST_PARTS])?;
     print_growth_by_parts("(f) the same near a limit", NEAR, &[10, MOST_PARTS])?;
-    print_uncovered()
+    print_uncovered()?;
+    print_early_ends()
 }
 
 fn main() -> ExitCode {

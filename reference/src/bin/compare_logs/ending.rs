@@ -3,8 +3,8 @@
 use reference::fields::{all_zero, u16_at};
 use reference::record::MAX_PARTS;
 use reference::report::{
-    head, part, question_2_report_whole, stated_length, HEAD_SIZE, MAX_TEXT, PART_MARK, PART_SIZE,
-    REPORT_MARK, TEXT_MARK,
+    head, part, question_2_report_whole, stated_length, WholeReport, HEAD_SIZE, MAX_TEXT,
+    PART_MARK, PART_SIZE, REPORT_MARK, TEXT_MARK,
 };
 use reference::roster::{read_entry, ENTRY_MARK, ENTRY_SIZE};
 use reference::shift_log::LOG_ENTRIES;
@@ -71,13 +71,30 @@ pub fn ending(input: &[u8]) -> &'static str {
     }
 }
 
+/// The whole reports of a stream up to the first that is not, its roster being good.
+pub fn whole_reports(input: &[u8]) -> impl Iterator<Item = WholeReport<'_>> {
+    let entries = input.chunks_exact(ENTRY_SIZE).take(LOG_ENTRIES);
+    let entries = entries.take_while(|entry| entry.starts_with(&ENTRY_MARK));
+    let mut rest = &input[entries.count() * ENTRY_SIZE..];
+    std::iter::from_fn(move || {
+        let (report, after) = split_report(rest)?;
+        rest = after;
+        Some(report)
+    })
+}
+
+/// The first report, if it is whole, and what comes after it.
+fn split_report(reports: &[u8]) -> Option<(WholeReport<'_>, &[u8])> {
+    let (report, after) = reports.split_at_checked(stated_length(reports)?)?;
+    Some((question_2_report_whole(report)?, after))
+}
+
 fn reports_ending(reports: &[u8]) -> &'static str {
     let mut rest = reports;
     while !rest.is_empty() {
-        let report = stated_length(rest).and_then(|length| rest.split_at_checked(length));
-        match report {
-            Some((report, after)) if question_2_report_whole(report).is_some() => rest = after,
-            _ => return fault(rest, rest.len() == reports.len()),
+        match split_report(rest) {
+            Some((_, after)) => rest = after,
+            None => return fault(rest, rest.len() == reports.len()),
         }
     }
     if reports.is_empty() {

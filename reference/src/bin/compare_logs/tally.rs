@@ -1,9 +1,9 @@
-//! How often each kind of ending, each answer, each place of a named part and each kind of remark
-//! occurred.
+//! How often each kind of ending, each answer, each place of a named part, each answer to an early
+//! end and each kind of remark occurred.
 
-use crate::ending::{ending, ENDINGS};
+use crate::ending::{ending, whole_reports, ENDINGS};
 use reference::remark::STANDING;
-use reference::report::MAX_TEXT;
+use reference::report::{head, MAX_TEXT};
 use std::collections::BTreeMap;
 
 /// The counts.
@@ -19,9 +19,11 @@ fn answers() -> impl Iterator<Item = String> {
     let numbers = (0..=19).filter(|&number| number != 1);
     let numbers = numbers.map(|number| format!("answer {number}"));
     let warnings = [1, 2, 4, 8].map(|warning| format!("warning {warning}"));
+    let early_ends = EARLY_ENDS.map(|number| early_end(&number.to_string()));
     numbers
         .chain(warnings)
         .chain(PARTS.map(str::to_string))
+        .chain(early_ends)
         .chain([LATE_STAMP.to_string(), CLEAN_LOG.to_string()])
 }
 
@@ -40,6 +42,13 @@ fn named_part(part: &str) -> &'static str {
         "100" => PARTS[3],
         _ => PARTS[2],
     }
+}
+
+/// What a report with end mark 2 can be answered, being whole and its owner's.
+const EARLY_ENDS: [u32; 10] = [0, 4, 5, 6, 8, 9, 10, 12, 13, 14];
+
+fn early_end(number: &str) -> String {
+    format!("end mark 2, answer {number}")
 }
 
 const LATE_STAMP: &str = "stamp out of range";
@@ -93,7 +102,27 @@ impl Tally {
         assert!(told, "{kind:?} is not the ending of\n{log}");
         *self.endings.entry(kind).or_default() += 1;
         log.lines().for_each(|line| self.count_line(line));
+        if !refused_roster {
+            self.count_early_ends(input, &log);
+        }
         log.lines().count() as u64
+    }
+
+    /// The lines after the header are those of the reports in order.
+    fn count_early_ends(&mut self, input: &[u8], log: &str) {
+        let lines = log.lines().skip(1);
+        let early = whole_reports(input)
+            .zip(lines)
+            .filter(|(report, _)| report.byte(head::END_MARK) == 2);
+        for (_, line) in early {
+            let words: Vec<&str> = line.split(' ').collect();
+            let (number, warnings) = (words[2], words[3]);
+            let expected = EARLY_ENDS.into_iter().chain([3]);
+            let mut expected = expected.map(|number| number.to_string());
+            let fits = expected.any(|expected| expected == number) && warnings == "0";
+            assert!(fits, "an early end can't be answered {line:?}");
+            self.occurred(early_end(number));
+        }
     }
 
     fn count_line(&mut self, line: &str) {

@@ -67,11 +67,14 @@ fn write_out(number: u64, difference: &Difference) -> String {
 
 fn all_occurred(tally: &Tally) -> bool {
     tally.print();
-    let missing = tally.missing();
+    let (missing, impossible) = (tally.missing(), tally.impossible());
     if !missing.is_empty() {
         println!("never occurred: {}", missing.join(", "));
     }
-    missing.is_empty()
+    if !impossible.is_empty() {
+        println!("occurred and can't: {}", impossible.join(", "));
+    }
+    missing.is_empty() && impossible.is_empty()
 }
 
 fn finish(passed: u32, failed: u32) -> ExitCode {

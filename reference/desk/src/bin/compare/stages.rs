@@ -10,7 +10,9 @@ use reference::register::BLOCK_SIZE;
 use reference::report::MAX_TEXT;
 use reference::roster::ENTRY_SIZE;
 use reference::source::{broken_report, roster, Source};
-use reference::worked_examples::{bench_findings, examples, roster_a, roster_a_reports};
+use reference::worked_examples::{
+    bench_findings, early_ends, examples, roster_a, roster_a_reports,
+};
 
 /// The number of calls compared, or the first difference.
 type Outcome = Result<u64, Box<Difference>>;
@@ -78,14 +80,20 @@ fn fresh(roster: &[u8], tally: &mut Tally) -> Result<Vec<u8>, Box<Difference>> {
     Ok(register)
 }
 
+/// A report answered and counted: the register afterwards.
+fn counted(before: &[u8], report: &[u8], tally: &mut Tally) -> Result<Vec<u8>, Box<Difference>> {
+    let (given, after) = answer(before, report)?;
+    tally.count(given, before, report);
+    Ok(after)
+}
+
 fn worked_examples(_: &mut Random, tally: &mut Tally) -> Outcome {
     let mut calls = 0;
-    for example in examples().into_iter().chain(bench_findings()) {
+    let examples = examples().into_iter().chain(bench_findings());
+    for example in examples.chain(early_ends()) {
         let mut register = fresh(&roster_a(), tally)?;
         for report in &example.reports {
-            let (given, after) = answer(&register, report)?;
-            tally.count(given, report);
-            register = after;
+            register = counted(&register, report, tally)?;
             calls += 1;
         }
     }
@@ -104,12 +112,10 @@ fn stream(
         let report = source.report();
         if random.percent(BROKEN) {
             let broken = broken_report(random, &report);
-            tally.count(answer(&register, &broken)?.0, &broken);
+            counted(&register, &broken, tally)?;
             calls += 1;
         }
-        let (given, after) = answer(&register, &report)?;
-        tally.count(given, &report);
-        register = after;
+        register = counted(&register, &report, tally)?;
         calls += 1;
     }
     Ok(calls)
@@ -146,7 +152,7 @@ fn every_byte(_: &mut Random, tally: &mut Tally) -> Outcome {
         let byte = register[at];
         for changed in [byte.wrapping_add(1), byte ^ 0x80] {
             register[at] = changed;
-            tally.count(answer(&register, &[])?.0, &[]);
+            counted(&register, &[], tally)?;
         }
         register[at] = byte;
     }
@@ -159,7 +165,7 @@ fn damaged_registers(random: &mut Random, tally: &mut Tally) -> Outcome {
     const DAMAGES: u64 = 50;
     let mut calls = 0;
     for variant in variants() {
-        tally.count(answer(&variant.register(), &[])?.0, &[]);
+        counted(&variant.register(), &[], tally)?;
         calls += 1;
     }
     for index in 0..REGISTERS {
@@ -168,7 +174,7 @@ fn damaged_registers(random: &mut Random, tally: &mut Tally) -> Outcome {
         let report = source.report();
         for _ in 0..DAMAGES {
             let register = damaged::register(random, &whole);
-            tally.count(answer(&register, &report)?.0, &report);
+            counted(&register, &report, tally)?;
         }
         calls += DAMAGES;
     }
@@ -184,7 +190,7 @@ fn damaged_reports(random: &mut Random, tally: &mut Tally) -> Outcome {
         for _ in 0..REPORTS {
             let register = source.register().to_vec();
             let report = damaged::report(random, &source.report());
-            tally.count(answer(&register, &report)?.0, &report);
+            counted(&register, &report, tally)?;
         }
         calls += REPORTS;
     }

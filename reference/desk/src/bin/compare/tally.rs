@@ -1,7 +1,8 @@
-//! How often each answer, each warning and each way to break cover occurred.
+//! How often each answer, each warning, each way to break cover and each kind of early end occurred.
 
 use desk_comparison::Answer;
 use reference::cover_faults::{cover_fault, KINDS};
+use reference::early_ends::{self, early_end_kinds};
 use reference::report::question_2_report_whole;
 use std::collections::BTreeMap;
 
@@ -13,6 +14,7 @@ pub struct Tally {
     answers: [u64; 20],
     sums: [u64; 16],
     cover_faults: [u64; KINDS.len()],
+    early_ends: BTreeMap<&'static str, u64>,
     accepted_set_ups: u64,
     refused_rosters: u64,
     refused_buffers: u64,
@@ -20,9 +22,12 @@ pub struct Tally {
 }
 
 impl Tally {
-    /// Counts the answer to a report.
-    pub fn count(&mut self, (number, warnings, _): Answer, report: &[u8]) {
+    /// Counts the answer to a report, by the register before it.
+    pub fn count(&mut self, (number, warnings, _): Answer, before: &[u8], report: &[u8]) {
         self.answers[number as usize] += 1;
+        for kind in early_end_kinds(before, report, (number, warnings)) {
+            *self.early_ends.entry(kind).or_default() += 1;
+        }
         match number {
             0 => self.sums[warnings as usize] += 1,
             8 => self.count_cover_fault(report),
@@ -62,6 +67,10 @@ impl Tally {
             .sum()
     }
 
+    fn early_end(&self, kind: &str) -> u64 {
+        self.early_ends.get(kind).copied().unwrap_or_default()
+    }
+
     fn rows(&self) -> Vec<(String, u64)> {
         let answers = self.answers.iter().enumerate();
         let answers = answers.map(|(number, &count)| (format!("answer {number}"), count));
@@ -69,6 +78,7 @@ impl Tally {
             WARNINGS.map(|warning| (format!("warning {warning}"), self.warning(warning)));
         let cover_faults = KINDS.iter().zip(self.cover_faults);
         let cover_faults = cover_faults.map(|(kind, count)| (kind.to_string(), count));
+        let early_ends = early_ends::KINDS.map(|kind| (kind.to_string(), self.early_end(kind)));
         let set_ups = [
             ("set-up 0", self.accepted_set_ups),
             ("set-up 20", self.refused_rosters),
@@ -77,8 +87,11 @@ impl Tally {
         let set_ups = set_ups.map(|(name, count)| (name.to_string(), count));
         let remarks = self.remarks.iter();
         let remarks = remarks.map(|(kind, &count)| (format!("remark: {kind}"), count));
-        let rows = answers.chain(warnings).chain(cover_faults).chain(set_ups);
-        rows.chain(remarks).collect()
+        let rows = answers.chain(warnings).chain(cover_faults);
+        rows.chain(early_ends)
+            .chain(set_ups)
+            .chain(remarks)
+            .collect()
     }
 
     /// Prints the table.
@@ -92,6 +105,12 @@ impl Tally {
             }
         }
         println!("  {:<44} {:8}", "answers", self.answers.iter().sum::<u64>());
+    }
+
+    /// What occurred and can't.
+    pub fn impossible(&self) -> Vec<&'static str> {
+        let never = early_ends::NEVER.into_iter();
+        never.filter(|kind| self.early_end(kind) > 0).collect()
     }
 
     /// What never occurred.
