@@ -71,7 +71,7 @@ samples() {
   logged "$room/roster 20" ./desk remarks - < /dev/null
   refused 0 'shift_log: the one argument that it takes is remarks' target/bin/shift_log remark
   refused 0 'shift_log: the one argument that it takes is remarks' target/bin/shift_log remarks remarks
-  told 'the evening is not shown' grep -q '^report 25: ' <(./desk show samples/evening.stream)
+  told 'the evening is not shown' grep -q '^report 30: ' <(./desk show samples/evening.stream)
 }
 
 # a copy of the script at the top of a bare folder, with stand-ins for rt
@@ -135,8 +135,21 @@ page_for_the_shift() {
   done
 }
 
+# excerpt SAMPLE SECTION: what the section has in blocks stands in the sample's log, or is shown of its stream
+excerpt() {
+  local page=docs/SHIFT-LOG.md line lines=0
+  { cat "samples/$1.log" && ./desk show "samples/$1.stream"; } > "$room/$1"
+  while IFS= read -r line; do
+    lines=$((lines + 1))
+    told "$page: not in $1: $line" grep -qxF -- "$line" "$room/$1"
+  done < <(sed -n "/^### $2/,/^### /p" "$page" | awk '/^```$/ { inside = !inside; next } inside')
+  told "$page: no lines of $1" [ "$lines" -gt 0 ]
+}
+
 bad_words
 page_for_the_shift
+excerpt cover 'Answer 8: which part'
+excerpt evening 'How to end a derating early'
 help_lists_every_word
 samples
 bare_folder
