@@ -1,25 +1,24 @@
 -- What an accepted early end leaves, and when it is accepted. Assumes nothing.
-use Prim.Native.Nat.{ℕ, suc, _+_, _*_, _-_, _≤_, _<_}
+use Prim.Native.Nat.{ℕ, _*_, _-_, _<_}
 use mathlib.Core.Path.{_≡_, refl, sym, ap, _∙_}
 use mathlib.Core.Bool.{Bool, true, false, not, _&&_, _||_, false≢true, and-false}
-use mathlib.Core.List.{List, [], _∷_}
+use mathlib.Core.List.{List}
 use native.Mathlib.Omega.{arith}
-use lib.Dec.{leb, ltb, eqb}
+use lib.Dec.{eqb}
 use lib.ListN.{length}
 use lib.Seq.{take-all}
-use borrow.Author.Tests.{eqb-true, eq-eqb, ne-eqb, leb-true, ltb-true, not-true}
+use borrow.Author.Tests.{eqb-true, eq-eqb, ne-eqb, ltb-true, not-true}
 use Rattle.fields.specs.Lists.{pick, every, and-each, part, put}
 use Rattle.fields.specs.Fields.{bytesOf}
-use Rattle.fields.proofs.Bools.{and-left, and-right, pick-elim, range-true, every-true, every-intro}
+use Rattle.fields.proofs.Bools.{and-left, and-right, pick-elim, range-true, every-true, every-intro, both-ways}
 use Rattle.fields.proofs.Slices.{part-before, part-put}
 use Rattle.report.specs.Report.{headOf, partsOf, whole}
-use Rattle.rules.specs.declared.Record.{Record}
 use Rattle.rules.specs.Codes.{stop, offGrid, change, create, isLevelled, planned, executed}
 use Rattle.rules.specs.Records.{coverBy, begun, sameIdentifier, closes}
 use Rattle.rules.specs.Roster.{pieces}
 use Rattle.rules.specs.Block.{headSize, slotSize, slotCount, blockSize, zeros, unitHead, slotAt, used}
 use Rattle.rules.specs.Whole.{blockWhole, registerWhole}
-use Rattle.rules.specs.Questions.{recordOf, endsEarly, eventHead, withdrawalHead, isEvent, isWithdrawal, isOperation, stampOf, recordAt, live, holder, other, heldRecord, changesState, leaves, stays, earlyEndTimes, startOf, question4, question6, question8}
+use Rattle.rules.specs.Questions.{recordOf, endsEarly, isEvent, isWithdrawal, isOperation, stampOf, recordAt, live, holder, heldRecord, changesState, leaves, stays, earlyEndTimes, startOf, question4, question6, question8}
 use Rattle.rules.specs.After.{slotWritten, slotAfter, headAfter, blockAfter, warnings}
 use Rattle.rules.specs.Judge.{Verdict, validationNumber, heldNumber, limitNumber, refusalNumber, judge}
 use Rattle.rules.specs.Desk.{blockAt, withBlock, onUnit, question3, answerTo}
@@ -27,8 +26,8 @@ use Rattle.rules.specs.EarlyEnd.{earlyEndPasses, LeavesSlot, EndedEarly}
 use Rattle.rules.proofs.Passed.{Passed, passed}
 use Rattle.rules.proofs.Holding.{free-unused}
 use Rattle.rules.proofs.Heads.{head-length}
-use Rattle.rules.proofs.Afterwards.{slot-after, block-length}
-use Rattle.rules.proofs.Apart.{both-ways, old-identifier}
+use Rattle.rules.proofs.Afterwards.{no-creation, slot-after, block-length}
+use Rattle.rules.proofs.Apart.{old-identifier}
 use Rattle.rules.proofs.BlockLaws.{ok-size, old-apart}
 use Rattle.rules.proofs.OneUnitAlone.{each-passes}
 use Rattle.rules.proofs.Refusals.{block-inside}
@@ -98,8 +97,7 @@ module _ (unit : ℕ) (b s : List ℕ) (block-whole : blockWhole unit b ≡ true
   none-written : (i : ℕ) → i < slotCount → slotAt (blockAfter b s) i ≡ pick (stays b s i) (slotAt b i) (zeros slotSize)
   unfolding slotAfter slotWritten pick
   none-written i h =
-      let not-created : isOperation create s ≡ false = rw (eqb-true (headOf s .operation) change changes) refl in
-      slot-after b s size p i h ∙ rw (not-created, changes, early, ne-eqb i slotCount (λ e. omega arith))
+      slot-after b s size p i h ∙ rw (no-creation s changes, changes, early, ne-eqb i slotCount (λ e. omega arith))
 
   -- the live slots but its own stay
   stays-when : (i : ℕ) → stays b s i ≡ (live b (stampOf s) i && not (eqb i (holder b s)))
@@ -110,9 +108,7 @@ module _ (unit : ℕ) (b s : List ℕ) (block-whole : blockWhole unit b ≡ true
     by-case false = refl
 
   held : holder b s < slotCount
-  held =
-      let not-created : isOperation create s ≡ false = rw (eqb-true (headOf s .operation) change changes) refl in
-      ltb-true (holder b s) slotCount (rw (event-not, not-created) at (p .q12))
+  held = ltb-true (holder b s) slotCount (rw (event-not, no-creation s changes) at (p .q12))
 
   kept : (i : ℕ) → i < slotCount → live b (stampOf s) i ≡ true → (i ≡ holder b s → ⊥) → slotAt (blockAfter b s) i ≡ slotAt b i
   unfolding pick
@@ -212,7 +208,7 @@ module _ (b s : List ℕ) (early : endsEarly (headOf s) ≡ true) where
       let t = early-times b s p early in
       let c = every-true _ t .0 in
       let l = every-true _ t .1 .0 in
-      let n : isOperation create s ≡ false = rw (eqb-true (headOf s .operation) change c) refl in
+      let n = no-creation s c in
       let q14 : pick (begun (heldRecord b s))
       (isOperation change s && eqb (startOf s) (heldRecord b s .period .start .0) && begun (recordOf s)) false ≡ true = rw
       (e, n, early) at (p .q14) in
@@ -262,7 +258,7 @@ module _ (b s : List ℕ) (early : endsEarly (headOf s) ≡ true) where
       let w = no-withdrawal s early (a .0) in
       let t = every-true _ (a .1 .1 .0) in
       let c = t .0 in
-      let n : isOperation create s ≡ false = rw (eqb-true (headOf s .operation) change c) refl in
+      let n = no-creation s c in
       rw (
         a .0,
         a .1 .0,

@@ -11,7 +11,7 @@ use Rattle.report.specs.Report.{headOf, partsOf}
 use Rattle.rules.specs.Records.{kindAllows, powersInRange, begun, sameIdentifier}
 use Rattle.rules.specs.Block.{headSize, slotSize, slotCount, zeros, unitHead, slotAt, used}
 use Rattle.rules.specs.Questions.{recordOf, stampOf, startOf, earlyEndTimes, question4, question10, question13, live, recordAt, holder, heldRecord}
-use Rattle.rules.specs.Judge.{Verdict, refusal}
+use Rattle.rules.specs.Judge.{Verdict}
 use Rattle.rules.specs.Desk.{blockAt, withBlock}
 
 -- "A change to a begun record of types 2 to 4 may carry end mark 2, with start < end ≤ stamp. The parts must still cover the
@@ -44,6 +44,6 @@ pub record LeavesSlot (b s c : List ℕ) : Type 0 where
 
 -- the same on the register: "the answer carries warnings 0", and the unit's block alone moves
 pub record EndedEarly (register s : List ℕ) (verdict : Verdict) : Type 0 where
-  pub answered : verdict .answer ≡ refusal 0
+  pub answered : verdict .answer ≡ record { number = 0; warnings = 0; part = 0 }
   pub rest : verdict .after ≡ withBlock register (headOf s .unit) (blockAt (verdict .after) (headOf s .unit))
   pub block : LeavesSlot (blockAt register (headOf s .unit)) s (blockAt (verdict .after) (headOf s .unit))

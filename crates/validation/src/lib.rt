@@ -109,8 +109,8 @@ fn ask_parts(report: &[u8], stamp: Minute, range: PowerRange, record_type: u8) -
 fn end_mark_in_range(h: Head) -> bool
     ensures { λ r. ⌜ r ≡ endMarkInRange h ⌝ }
 {
-    let on_no_record = (h.record_type == EVENT) | (h.operation == WITHDRAW);
-    (h.end_mark == PLANNED) | (records::ends_early(h) & !on_no_record)
+    let event_or_withdrawal = (h.record_type == EVENT) | (h.operation == WITHDRAW);
+    (h.end_mark == PLANNED) | (records::ends_early(h) & !event_or_withdrawal)
 }
 
 // Question 4, but for the parts.
