@@ -20,7 +20,7 @@
 enum { W1 = 1, Z1 = 3 };
 enum { STATE_P = 5 };
 enum { STOP = 1, POSITIVE_DERATING = 2, FORCED_WORK = 4 };
-enum { CREATE = 1 };
+enum { CREATE = 1, CHANGE = 2 };
 enum { GENERATION = 1 };
 enum { PLANNED = 1, EXECUTED = 2 };
 enum { RA = 1 };
@@ -129,6 +129,18 @@ static Report stepping(int line, uint32_t stamp, uint32_t late)
     return r;
 }
 
+/* A change of report 1's derating, which has begun; with end mark 2 it ends it, before its planned end. */
+static Report changed(uint32_t ordinal, uint8_t end_mark, uint32_t stamp, uint32_t end)
+{
+    Report r = head_of(1, POSITIVE_DERATING, EXECUTED, 0, 1, stamp, 60, end);
+    r.bytes[7] = CHANGE;
+    r.bytes[10] = end_mark;
+    put16(r.bytes + 12, ordinal);
+    add_part(&r, 60, end, 20000);
+    add_text(&r, "");
+    return r;
+}
+
 static Report begun_stop(int line, uint32_t stamp, uint32_t start)
 {
     Report r = head_of(1, STOP, EXECUTED, RA, line, stamp, start, 180);
@@ -143,6 +155,7 @@ static const char *words_of(uint32_t number)
     case DESK_REFUSED_REPORT: return "refused, the report is not whole";
     case DESK_REFUSED_UNIT_OR_OWNER: return "refused, unit and owner do not go together";
     case DESK_REFUSED_PARTS: return "refused, the parts do not cover the period";
+    case DESK_REFUSED_IDENTIFIER_UNKNOWN: return "refused, no live record has this identifier";
     case DESK_REFUSED_LEVELS: return "refused, forced work and deratings do not fit";
     default: return "refused";
     }
@@ -228,6 +241,11 @@ int main(void)
     answer(reg, "four parts, the third a minute late", steps.bytes, steps.length, DESK_REFUSED_PARTS, 0, 3);
     steps = stepping(6, 27, 0);
     answer(reg, "the same put right", steps.bytes, steps.length, 0, 0, 0);
+    steps = changed(2, PLANNED, 61, 120);
+    answer(reg, "report 1's derating has begun", steps.bytes, steps.length, 0, DESK_WARNING_STOP, 0);
+    steps = changed(3, EXECUTED, 75, 72);
+    answer(reg, "it ended early", steps.bytes, steps.length, 0, 0, 0);
+    answer(reg, "the same once more", steps.bytes, steps.length, DESK_REFUSED_IDENTIFIER_UNKNOWN, 0, 0);
     answer(reg, "an empty report, NULL and 0", NULL, 0, DESK_REFUSED_REPORT, 0, 0);
     expect("an empty register, NULL and 0", desk_answer(NULL, 0, reports[0].bytes, reports[0].length), DESK_REFUSED_REGISTER);
 
