@@ -1,5 +1,4 @@
-// The reports of paper 01 that no theorem has, the bench findings, and the parts that paper 02 has named, run on the proved desk.
-mod cover;
+// The reports of paper 01 that no theorem has, and the bench findings, run on the proved desk.
 mod words;
 
 use rules::Answer;
@@ -30,7 +29,6 @@ fn run(register: &mut [u8], report: &mut [u8])
 {
     without_star(register, report);
     bench_findings(register, report);
-    cover::which_part(register, report);
 }
 
 // The desk's answer to the bytes that are then in the report.

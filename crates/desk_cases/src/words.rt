@@ -6,17 +6,13 @@ pub(crate) fn say(words: &[u8]) {
     io::write_all(STDOUT_FILENO, words);
 }
 
-pub(crate) fn say_number(n: u16) {
+fn say_number(n: u16) {
     io::print_decimal(STDOUT_FILENO, n as u64);
 }
 
 fn say_refusal(a: Answer) {
     say(b": refused with ");
     say_number(a.number as u16);
-    if a.number == 8 {
-        say(b", part ");
-        say_number(a.part);
-    }
 }
 
 pub(crate) fn say_answer(a: Answer) {

@@ -9,429 +9,233 @@ use records::PLANNED;
 use records::STOP;
 use records::WITHDRAW;
 use sent_reports::D;
-use sent_reports::compose;
+use sent_reports::Sent;
 use sent_reports::derating_over;
 use sent_reports::event;
 use sent_reports::fresh;
-ghost use mathlib.Core.Path.{_≡_};
 ghost use Prim.Native.Nat.{_≤_};
-ghost use lib.ListN.{length};
 
 // Minutes of 2026-03-01.
 const NOON: u32 = D + 720;
-
-const PLANNED_END: u32 = D + 960;
 
 const ENDED: u32 = D + 847;
 
 const SAID: u32 = D + 850;
 
-// Where a report's head and its part have these fields.
-const TYPE: usize = 6;
+const PLANNED_END: u32 = D + 960;
 
-const OPERATION: usize = 7;
-
-const START_MARK: usize = 9;
-
-const END_MARK: usize = 10;
-
-const QUALIFICATION: usize = 11;
-
-const ORDINAL: usize = 12;
-
-const PART_END: usize = 56;
-
-const POWER: usize = 60;
-
-pub(crate) fn cases(register: &mut [u8], report: &mut [u8], text: &mut [u8])
-    requires { ⌜ (length (now report) ≡ 1850) × (length (now text) ≡ 128) ⌝ }
-{
-    say(b"A derating that ended early: from 12:00, planned to 16:00\n");
-    story(register, report, text);
-    times(register, report, text);
-    fields_and_parts(register, report, text);
+// A report of the derating, and what a plain creation does not vary.
+struct Change {
+    sent: Sent,
+    operation: u8,
+    end_mark: u8,
+    ordinal: u8,
+    part_end: u32,
 }
 
-// The derating as it is created; how many bytes it has.
-fn plan(report: &mut [u8], stamp: u32, start: u32) -> usize
-    ensures { λ r. ⌜ r ≤ 82 ⌝ }
-{
-    compose(report, derating_over(1, stamp, start, PLANNED_END))
+pub(crate) fn cases(register: &mut [u8]) {
+    say(b"\nA derating that ended early: from 12:00, planned to 16:00\n");
+    story(register);
+    other_times(register);
+    other_fields(register);
 }
 
-// A change of it, executed from 12:00 on.
-fn change(report: &mut [u8], stamp: u32, end: u32, end_mark: u8, ordinal: u8) -> usize
+fn other_times(register: &mut [u8]) {
+    say(b"\nOther times, of the derating that has begun\n");
+    other_ends(register);
+    ends_outside(register);
+    other_stamps(register);
+}
+
+fn planned(stamp: u32, start: u32) -> Change {
+    Change {
+        sent: derating_over(1, stamp, start, PLANNED_END),
+        operation: CREATE,
+        end_mark: PLANNED,
+        ordinal: 1,
+        part_end: PLANNED_END,
+    }
+}
+
+// A change, executed from 12:00 on.
+fn changed(stamp: u32, end: u32, end_mark: u8, ordinal: u8) -> Change {
+    let mut sent = derating_over(1, stamp, NOON, end);
+    sent.start_mark = EXECUTED;
+    Change {
+        sent,
+        operation: CHANGE,
+        end_mark,
+        ordinal,
+        part_end: end,
+    }
+}
+
+fn begun() -> Change {
+    changed(NOON + 3, PLANNED_END, PLANNED, 2)
+}
+
+fn ended(stamp: u32, end: u32) -> Change {
+    changed(stamp, end, EXECUTED, 3)
+}
+
+// Puts the report's bytes; how many they are.
+fn compose(report: &mut [u8], c: Change) -> usize
     ensures { λ r. ⌜ r ≤ 82 ⌝ }
 {
-    let size = compose(report, derating_over(1, stamp, NOON, end));
-    fields::put_u8(report, OPERATION, CHANGE);
-    fields::put_u8(report, START_MARK, EXECUTED);
-    fields::put_u8(report, END_MARK, end_mark);
-    fields::put_u8(report, ORDINAL, ordinal);
+    let size = sent_reports::compose(report, c.sent);
+    fields::put_u8(report, 7, c.operation);
+    fields::put_u8(report, 10, c.end_mark);
+    fields::put_u8(report, 12, c.ordinal);
+    fields::put_u32(report, 56, c.part_end);
     size
 }
 
-fn begin(report: &mut [u8]) -> usize
-    ensures { λ r. ⌜ r ≤ 82 ⌝ }
-{
-    change(report, NOON + 3, PLANNED_END, PLANNED, 2)
+fn then(register: &mut [u8], c: Change, words: &[u8]) {
+    let mut report = [0u8; 82];
+    let size = compose(&mut report, c);
+    line(register, &report, size, words);
 }
 
-fn end_early(report: &mut [u8], stamp: u32, end: u32) -> usize
-    ensures { λ r. ⌜ r ≤ 82 ⌝ }
-{
-    change(report, stamp, end, EXECUTED, 3)
+fn silently(register: &mut [u8], c: Change) {
+    let mut report = [0u8; 82];
+    let size = compose(&mut report, c);
+    desk::answer_report(register, &report[..size]);
 }
 
-fn story(register: &mut [u8], report: &mut [u8], text: &mut [u8])
-    requires { ⌜ (length (now report) ≡ 1850) × (length (now text) ≡ 128) ⌝ }
-{
+// A report after the derating was planned, on a fresh register, and has begun.
+fn running(register: &mut [u8], c: Change, words: &[u8]) {
     fresh(register);
-    let size = plan(report, NOON - 10, NOON);
-    line(register, report, size, text, b"planned at 11:50: ");
-    let size = end_early(report, SAID, ENDED);
-    line(
+    silently(register, planned(NOON - 10, NOON));
+    silently(register, begun());
+    then(register, c, words);
+}
+
+fn story(register: &mut [u8]) {
+    fresh(register);
+    then(register, planned(NOON - 10, NOON), b"planned at 11:50: ");
+    then(
         register,
-        report,
-        size,
-        text,
+        ended(SAID, ENDED),
         b"ended at 14:07, though nobody said that it has begun: ",
     );
-    begun_and_ended(register, report, text);
+    begun_and_ended(register);
 }
 
-fn begun_and_ended(register: &mut [u8], report: &mut [u8], text: &mut [u8])
-    requires { ⌜ (length (now report) ≡ 1850) × (length (now text) ≡ 128) ⌝ }
-{
-    let size = begin(report);
-    line(
+fn begun_and_ended(register: &mut [u8]) {
+    then(register, begun(), b"begun at 12:00, said at 12:03: ");
+    then(
         register,
-        report,
-        size,
-        text,
-        b"begun at 12:00, said at 12:03: ",
-    );
-    let size = end_early(report, SAID, ENDED);
-    line(
-        register,
-        report,
-        size,
-        text,
+        ended(SAID, ENDED),
         b"ended at 14:07, said at 14:10: ",
     );
-    afterwards(register, report, text);
+    afterwards(register);
 }
 
-fn afterwards(register: &mut [u8], report: &mut [u8], text: &mut [u8])
-    requires { ⌜ (length (now report) ≡ 1850) × (length (now text) ≡ 128) ⌝ }
-{
-    let size = end_early(report, SAID, ENDED);
-    line(
+fn afterwards(register: &mut [u8]) {
+    then(
         register,
-        report,
-        size,
-        text,
+        ended(SAID, ENDED),
         b"the same once more, its record has left: ",
     );
-    let size = plan(report, D + 890, D + 900);
-    line(
+    then(
         register,
-        report,
-        size,
-        text,
+        planned(D + 890, D + 900),
         b"its identifier created anew, from 15:00: ",
     );
 }
 
-fn answer(register: &mut [u8], report: &[u8], size: usize)
-    requires { ⌜ size ≤ length (now report) ⌝ }
-{
-    desk::answer_report(register, &report[..size]);
+fn other_ends(register: &mut [u8]) {
+    running(register, ended(SAID, NOON + 1), b"ended after a minute: ");
+    running(register, ended(SAID, SAID), b"ended when it is said: ");
 }
 
-// A fresh register with the derating, begun.
-fn running(register: &mut [u8], report: &mut [u8])
-    requires { ⌜ length (now report) ≡ 1850 ⌝ }
-{
-    fresh(register);
-    let size = plan(report, NOON - 10, NOON);
-    answer(register, report, size);
-    let size = begin(report);
-    answer(register, report, size);
-}
-
-fn ended(
-    register: &mut [u8],
-    report: &mut [u8],
-    text: &mut [u8],
-    stamp: u32,
-    end: u32,
-    words: &[u8],
-)
-    requires { ⌜ (length (now report) ≡ 1850) × (length (now text) ≡ 128) ⌝ }
-{
-    running(register, report);
-    let size = end_early(report, stamp, end);
-    line(register, report, size, text, words);
-}
-
-fn times(register: &mut [u8], report: &mut [u8], text: &mut [u8])
-    requires { ⌜ (length (now report) ≡ 1850) × (length (now text) ≡ 128) ⌝ }
-{
-    say(b"\nOther times, of the derating that has begun\n");
-    within_its_times(register, report, text);
-    outside_its_times(register, report, text);
-    other_stamps(register, report, text);
-}
-
-fn within_its_times(register: &mut [u8], report: &mut [u8], text: &mut [u8])
-    requires { ⌜ (length (now report) ≡ 1850) × (length (now text) ≡ 128) ⌝ }
-{
-    ended(
+fn ends_outside(register: &mut [u8]) {
+    running(register, ended(SAID, NOON), b"ended where it started: ");
+    running(
         register,
-        report,
-        text,
-        SAID,
-        NOON + 1,
-        b"ended after a minute: ",
-    );
-    ended(
-        register,
-        report,
-        text,
-        SAID,
-        SAID,
-        b"ended when it is said: ",
-    );
-}
-
-fn outside_its_times(register: &mut [u8], report: &mut [u8], text: &mut [u8])
-    requires { ⌜ (length (now report) ≡ 1850) × (length (now text) ≡ 128) ⌝ }
-{
-    ended(
-        register,
-        report,
-        text,
-        SAID,
-        NOON,
-        b"ended where it started: ",
-    );
-    ended(
-        register,
-        report,
-        text,
-        SAID,
-        SAID + 1,
+        ended(SAID, SAID + 1),
         b"ended a minute after it is said: ",
     );
 }
 
-fn other_stamps(register: &mut [u8], report: &mut [u8], text: &mut [u8])
-    requires { ⌜ (length (now report) ≡ 1850) × (length (now text) ≡ 128) ⌝ }
-{
-    let late = PLANNED_END - 1;
-    ended(
+fn other_stamps(register: &mut [u8]) {
+    running(
         register,
-        report,
-        text,
-        NOON + 2,
-        NOON + 1,
+        ended(NOON + 2, NOON + 1),
         b"said before the last report: ",
     );
-    ended(
+    running(
         register,
-        report,
-        text,
-        late,
-        ENDED,
+        ended(PLANNED_END - 1, ENDED),
         b"said a minute before its planned end: ",
     );
-    ended(
+    running(
         register,
-        report,
-        text,
-        PLANNED_END,
-        ENDED,
+        ended(PLANNED_END, ENDED),
         b"said at its planned end, when it is gone: ",
     );
 }
 
-fn fields_and_parts(register: &mut [u8], report: &mut [u8], text: &mut [u8])
-    requires { ⌜ (length (now report) ≡ 1850) × (length (now text) ≡ 128) ⌝ }
-{
+fn other_fields(register: &mut [u8]) {
     say(b"\nEnded at 14:07, but\n");
-    other_fields(register, report, text);
-    other_types(register, report, text);
-    other_parts(register, report, text);
+    other_marks(register);
+    other_operations(register);
+    other_types(register);
+    other_parts(register);
 }
 
-// One byte of the report is another.
-fn with_byte(
-    register: &mut [u8],
-    report: &mut [u8],
-    text: &mut [u8],
-    at: usize,
-    value: u8,
-    words: &[u8],
-)
-    requires { ⌜ (length (now report) ≡ 1850) × (length (now text) ≡ 128) ⌝ }
-{
-    running(register, report);
-    let size = end_early(report, SAID, ENDED);
-    fields::put_u8(report, at, value);
-    line(register, report, size, text, words);
+fn other_marks(register: &mut [u8]) {
+    let mut c = ended(SAID, ENDED);
+    c.end_mark = 3;
+    running(register, c, b"end mark 3: ");
+    c.end_mark = PLANNED;
+    running(register, c, b"end mark 1, planned: ");
+    c.end_mark = EXECUTED;
+    c.sent.start_mark = PLANNED;
+    running(register, c, b"start mark 1, planned: ");
 }
 
-fn other_fields(register: &mut [u8], report: &mut [u8], text: &mut [u8])
-    requires { ⌜ (length (now report) ≡ 1850) × (length (now text) ≡ 128) ⌝ }
-{
-    other_marks(register, report, text);
-    other_operations(register, report, text);
-    with_byte(
-        register,
-        report,
-        text,
-        ORDINAL,
-        2,
-        b"an ordinal that is not greater: ",
-    );
+fn other_operations(register: &mut [u8]) {
+    let mut c = ended(SAID, ENDED);
+    c.operation = WITHDRAW;
+    running(register, c, b"as a withdrawal: ");
+    c.operation = CREATE;
+    running(register, c, b"as a creation: ");
+    c.operation = CHANGE;
+    c.ordinal = 2;
+    running(register, c, b"with an ordinal that is not greater: ");
 }
 
-fn other_marks(register: &mut [u8], report: &mut [u8], text: &mut [u8])
-    requires { ⌜ (length (now report) ≡ 1850) × (length (now text) ≡ 128) ⌝ }
-{
-    with_byte(register, report, text, END_MARK, 3, b"end mark 3: ");
-    with_byte(
-        register,
-        report,
-        text,
-        END_MARK,
-        PLANNED,
-        b"end mark 1, planned: ",
-    );
-    with_byte(
-        register,
-        report,
-        text,
-        START_MARK,
-        PLANNED,
-        b"start mark 1, planned: ",
-    );
+fn other_types(register: &mut [u8]) {
+    let mut c = ended(SAID, ENDED);
+    c.sent.record_type = NEGATIVE_DERATING;
+    running(register, c, b"of another type than its record: ");
+    c.sent.record_type = STOP;
+    c.sent.qualification = 1;
+    running(register, c, b"of a stop: ");
+    c.sent = event(5);
+    c.sent.stamp = SAID;
+    c.operation = CREATE;
+    running(register, c, b"of an event: ");
 }
 
-fn other_operations(register: &mut [u8], report: &mut [u8], text: &mut [u8])
-    requires { ⌜ (length (now report) ≡ 1850) × (length (now text) ≡ 128) ⌝ }
-{
-    with_byte(
-        register,
-        report,
-        text,
-        OPERATION,
-        WITHDRAW,
-        b"as a withdrawal: ",
-    );
-    with_byte(
-        register,
-        report,
-        text,
-        OPERATION,
-        CREATE,
-        b"as a creation: ",
-    );
+fn other_parts(register: &mut [u8]) {
+    let mut c = ended(SAID, ENDED);
+    c.part_end = PLANNED_END;
+    running(register, c, b"its part still ends at 16:00: ");
+    c.part_end = ENDED - 1;
+    running(register, c, b"its part ends at 14:06: ");
+    other_powers(register);
 }
 
-fn other_types(register: &mut [u8], report: &mut [u8], text: &mut [u8])
-    requires { ⌜ (length (now report) ≡ 1850) × (length (now text) ≡ 128) ⌝ }
-{
-    as_event(register, report, text);
-    as_stop(register, report, text);
-    with_byte(
+fn other_powers(register: &mut [u8]) {
+    let mut c = ended(SAID, ENDED);
+    c.sent.power = 100000000;
+    running(register, c, b"at 100,000,000 kW: ");
+    c.sent.power = 200001;
+    running(
         register,
-        report,
-        text,
-        TYPE,
-        NEGATIVE_DERATING,
-        b"of another type than its record: ",
-    );
-}
-
-fn as_event(register: &mut [u8], report: &mut [u8], text: &mut [u8])
-    requires { ⌜ (length (now report) ≡ 1850) × (length (now text) ≡ 128) ⌝ }
-{
-    running(register, report);
-    let mut s = event(5);
-    s.stamp = SAID;
-    let size = compose(report, s);
-    fields::put_u8(report, END_MARK, EXECUTED);
-    line(register, report, size, text, b"as an event: ");
-}
-
-fn as_stop(register: &mut [u8], report: &mut [u8], text: &mut [u8])
-    requires { ⌜ (length (now report) ≡ 1850) × (length (now text) ≡ 128) ⌝ }
-{
-    running(register, report);
-    let size = end_early(report, SAID, ENDED);
-    fields::put_u8(report, TYPE, STOP);
-    fields::put_u8(report, QUALIFICATION, 1);
-    line(register, report, size, text, b"as a stop: ");
-}
-
-// A number of the part is another.
-fn with_word(
-    register: &mut [u8],
-    report: &mut [u8],
-    text: &mut [u8],
-    at: usize,
-    value: u32,
-    words: &[u8],
-)
-    requires { ⌜ (length (now report) ≡ 1850) × (length (now text) ≡ 128) ⌝ }
-{
-    running(register, report);
-    let size = end_early(report, SAID, ENDED);
-    fields::put_u32(report, at, value);
-    line(register, report, size, text, words);
-}
-
-fn other_parts(register: &mut [u8], report: &mut [u8], text: &mut [u8])
-    requires { ⌜ (length (now report) ≡ 1850) × (length (now text) ≡ 128) ⌝ }
-{
-    with_word(
-        register,
-        report,
-        text,
-        PART_END,
-        PLANNED_END,
-        b"its part still ends at 16:00: ",
-    );
-    with_word(
-        register,
-        report,
-        text,
-        PART_END,
-        ENDED - 1,
-        b"its part ends at 14:06: ",
-    );
-    other_powers(register, report, text);
-}
-
-fn other_powers(register: &mut [u8], report: &mut [u8], text: &mut [u8])
-    requires { ⌜ (length (now report) ≡ 1850) × (length (now text) ≡ 128) ⌝ }
-{
-    with_word(
-        register,
-        report,
-        text,
-        POWER,
-        100000000,
-        b"at 100,000,000 kW: ",
-    );
-    with_word(
-        register,
-        report,
-        text,
-        POWER,
-        200001,
+        c,
         b"at 200,001 kW, above Pmax, which is passed over: ",
     );
 }

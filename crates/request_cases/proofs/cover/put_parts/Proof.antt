@@ -3,8 +3,8 @@ use mathlib.Core.Path.{_≡_}
 use native.Mathlib.Omega.{arith}
 use borrow.Author.Needs.{needs}
 use lib.ListN.{length}
-use Rattle.desk_cases.proofs.cover.put_parts.Statement.{statement}
-use Rattle.desk_cases.proofs.cover.put_parts.Tie as tie
+use Rattle.request_cases.proofs.cover.put_parts.Statement.{statement}
+use Rattle.request_cases.proofs.cover.put_parts.Tie as tie
 
 abbrev Inv-loop : tie.InvT-loop
 Inv-loop report₀ count i₀ report i = length report ≡ length report₀
