@@ -14,7 +14,7 @@
  *   own: calls on different registers may run at the same time, on one register only one after the other.
  * - Bytes need no alignment. Numbers in them are little-endian.
  * - A call ends. It allocates nothing, does no input or output and raises no signal; its stack is below 16 kB.
- * - A refusal leaves every byte of the register as it was.
+ * - A refusal leaves every byte of the register, and of a text that is lent to be written, as it was.
  */
 #ifndef LOYIFEKU_DESK_H
 #define LOYIFEKU_DESK_H
@@ -36,6 +36,7 @@ extern "C" {
 #define DESK_MOST_PARTS 100      /* parts in a report */
 #define DESK_LONGEST_TEXT 200    /* a report's text */
 #define DESK_LONGEST_REPORT 1850 /* 50 + 16 for each part + the text */
+#define DESK_DATE_SIZE 16        /* a date's characters, as in 2026-03-01 00:10, without a 0 at the end */
 
 /* The number in an answer: 0, or the first question that was answered "no". docs/SHIFT-LOG.md explains each of them. */
 enum {
@@ -60,7 +61,10 @@ enum {
     DESK_REFUSED_STATE = 18,              /* not after the unit's since, or its state has no such arrow */
     DESK_REFUSED_SLOTS = 19,              /* no slot is free */
     DESK_REFUSED_ROSTER = 20,             /* set-up: the roster is not 1 to 64 good entries */
-    DESK_REFUSED_BUFFER = 21              /* set-up: the register is not 7,168 bytes for each entry */
+    DESK_REFUSED_BUFFER = 21,             /* set-up: the register is not 7,168 bytes for each entry */
+    DESK_REFUSED_MINUTE = 22,             /* a date to print: the minute is after 2049-12-31 23:59 */
+    DESK_REFUSED_DATE = 23,               /* a date to read: no minute has this text */
+    DESK_REFUSED_ROOM = 43                /* what was lent has no room for the answer */
 };
 
 /* The warnings in an answer, added up. A refusal has none. */
@@ -80,6 +84,10 @@ enum {
 static inline uint32_t desk_number(uint32_t answer) { return answer & 255u; }
 static inline uint32_t desk_warnings(uint32_t answer) { return (answer >> 8) & 255u; }
 static inline uint32_t desk_part(uint32_t answer) { return answer >> 16; }
+
+/* What a function returns that answers with a number and a value, taken apart. The value is 0 beside a refusal. */
+static inline uint32_t desk_number_of(uint64_t answer) { return (uint32_t)answer; }
+static inline uint32_t desk_value(uint64_t answer) { return (uint32_t)(answer >> 32); }
 
 /* What desk_remark returns, taken apart: 1 where the remark is the standing text, else 0. desk_number gives its 0 or 2. */
 static inline uint32_t desk_remark_is_standing(uint32_t answer) { return (answer >> 8) & 1u; }
@@ -109,6 +117,20 @@ uint32_t desk_answer(uint8_t *reg, size_t reg_length, const uint8_t *report, siz
  */
 uint32_t desk_remark(const uint8_t *report, size_t report_length, const uint8_t *standing, size_t standing_length,
                      uint64_t *place, uint64_t *length);
+
+/*
+ * Reads a date, which is the print of a minute: sixteen characters as in 2026-03-01 00:10, from 2000-01-01 00:00 to 2049-12-31 23:59,
+ * UTC. There is one spelling: the text that desk_print_date gives for the minute.
+ * Returns number + 2^32 * value: 0 and the minute, or 23 for every other text; see desk_number_of and desk_value.
+ */
+uint64_t desk_read_date(const uint8_t *text, size_t text_length);
+
+/*
+ * Prints the date of a minute into the first sixteen bytes of a text; the bytes after them stay, and no 0 is put at the end.
+ * Returns 0; 22 where the minute is after the last one, 26,298,719; else 43 where the text has fewer than sixteen bytes. A refusal
+ * writes nothing.
+ */
+uint32_t desk_print_date(uint32_t minute, uint8_t *text, size_t text_length);
 
 #ifdef __cplusplus
 }

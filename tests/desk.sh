@@ -40,6 +40,8 @@ bad_words() {
   refused 2 'desk: log takes one FILE, or - for standard input' ./desk log
   refused 2 'desk: remarks takes one FILE, or - for standard input' ./desk remarks
   refused 2 'desk: show takes one FILE, or - for standard input' ./desk show one two
+  refused 2 'desk: date takes a date such as 2026-03-01 00:10, a minute, or - for lines of them' ./desk date
+  refused 2 'desk: date takes a date such as 2026-03-01 00:10, a minute, or - for lines of them' ./desk date 2026-03-01 00:10 7
   refused 2 'desk: compare takes nothing more' ./desk compare 7
   refused 1 'desk: no such file: no/such file' ./desk log 'no/such file'
   refused 1 'desk: a folder, not a file: samples' ./desk show samples
@@ -49,7 +51,7 @@ help_lists_every_word() {
   local word
   ./desk help > "$room/help"
   told 'no argument is not help' cmp -s "$room/help" <(./desk)
-  for word in log remarks set-up answer show compare bench test help; do
+  for word in log remarks set-up answer date show compare bench test help; do
     told "help lacks $word" grep -q "^./desk $word " "$room/help"
   done
 }
@@ -72,6 +74,37 @@ samples() {
   refused 0 'shift_log: the one argument that it takes is remarks' target/bin/shift_log remark
   refused 0 'shift_log: the one argument that it takes is remarks' target/bin/shift_log remarks remarks
   told 'the evening is not shown' grep -q '^report 30: ' <(./desk show samples/evening.stream)
+}
+
+# given ANSWER WORD..: the one line on standard output
+given() {
+  local answer=$1
+  shift
+  logged <(printf '%s\n' "$answer") ./desk date "$@"
+}
+
+# no_minute TEXT: 23
+no_minute() {
+  refused 1 "desk: 23: no minute has the date '$1'; dates are written as 2026-03-01 00:10, from 2000 to 2049" ./desk date "$1"
+}
+
+dates() {
+  local last='is after the last one, 26298719, which is 2049-12-31 23:59' text
+  given 13760650 '2026-03-01 00:10'
+  given 13760650 2026-03-01 00:10
+  given '2026-03-01 00:10' 13760650
+  given '2000-01-01 00:00' 0
+  given 26298719 '2049-12-31 23:59'
+  refused 1 "desk: 22: minute 26298720 $last" ./desk date 26298720
+  refused 1 "desk: 22: minute 99999999999999999999999 $last" ./desk date 99999999999999999999999
+  for text in '' ' ' 2026-03-01 2026-03-01T00:10 '2026-03-01 24:00' '2025-02-29 00:00' '2026-03-01 00:10 ' 007 -5 +5 1e3 '*' '%s' \
+    '2026-03-01 00:1\n' $'2026-03-01 00:1\n' $'\n2026-03-01 00:10' $'0\n' 'refused 22'; do
+    no_minute "$text"
+  done
+  logged <(printf '%s\n' 13760650 'refused 23' '2000-01-01 00:00' 'refused 22') \
+    ./desk date - < <(printf '%s\n' '2026-03-01 00:10' '' 0 26298720)
+  logged <(printf '') ./desk date - < /dev/null
+  refused 1 "typed_dates: standard input can't be read: Is a directory" bash -c './desk date - < samples'
 }
 
 # a copy of the script at the top of a bare folder, with stand-ins for rt
@@ -127,7 +160,7 @@ unreadable_file() {
 page_for_the_shift() {
   local page=docs/SHIFT-LOG.md number
   told "$page has another log" cmp -s samples/roster-a.log <(sed '1,/^```$/d;/^```$/,$d' "$page")
-  for number in {1..22}; do
+  for number in {1..23} 43; do
     told "$page lacks answer $number" grep -q "^| $number |" <(sed -n '/^## Refusals/,/^## Warnings/p' "$page")
   done
   for number in 1 2 4 8; do
@@ -146,12 +179,31 @@ excerpt() {
   told "$page: no lines of $1" [ "$lines" -gt 0 ]
 }
 
+# page_of_dates: what the page has the desk say it says, and its table is right
+page_of_dates() {
+  local page=docs/DATES.md line text answer rows=0
+  awk '/^```$/ { inside = !inside; next } inside' "$page" > "$room/said"
+  while IFS= read -r line; do
+    printf '%s\n' "$line" && bash -c "${line#'$ '}" 2>&1
+  done < <(grep '^\$ ' "$room/said") > "$room/says"
+  told "$page has something else than is said" diff "$room/said" "$room/says"
+  while IFS='|' read -r _ text answer _; do
+    rows=$((rows + 1))
+    text=${text#*\`} text=${text%\`*} answer=${answer// /}
+    [ "$answer" != 23 ] || answer='refused 23'
+    told "$page: $text is not $answer" [ "$(./desk date - <<< "$text")" = "$answer" ]
+  done < <(grep '^| `' "$page")
+  told "$page: $rows rows" [ "$rows" -ge 11 ]
+}
+
 bad_words
 page_for_the_shift
+page_of_dates
 excerpt cover 'Answer 8: which part'
 excerpt evening 'How to end a derating early'
 help_lists_every_word
 samples
+dates
 bare_folder
 builds
 unreadable_file

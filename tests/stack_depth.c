@@ -1,4 +1,4 @@
-/* How much stack a call of desk_answer takes: reports of 1 and of 100 parts, accepted and refused, on a stack that was painted. */
+/* How much stack a call takes, on a stack that was painted: reports of 1 and of 100 parts, accepted and refused; dates. */
 #include <stdio.h>
 #include <string.h>
 #include <ucontext.h>
@@ -65,7 +65,17 @@ static void compose(uint8_t type, uint32_t parts)
     report_length = 50 + 16 * parts;
 }
 
-static void call(void) { answer = desk_answer(reg, sizeof reg, report, report_length); }
+static void judge(void) { answer = desk_answer(reg, sizeof reg, report, report_length); }
+
+/* The first minute is printed and read back. */
+static void there_and_back(void)
+{
+    uint8_t text[DESK_DATE_SIZE];
+    answer = desk_print_date(0, text, sizeof text);
+    answer += desk_number_of(desk_read_date(text, sizeof text));
+}
+
+static void (*called)(void) = judge;
 
 static size_t taken(void)
 {
@@ -75,7 +85,7 @@ static size_t taken(void)
     there.uc_stack.ss_sp = stack;
     there.uc_stack.ss_size = sizeof stack;
     there.uc_link = &here;
-    makecontext(&there, call, 0);
+    makecontext(&there, called, 0);
     swapcontext(&here, &there);
     while (untouched < sizeof stack && stack[untouched] == PAINT) untouched++;
     return sizeof stack - untouched;
@@ -111,5 +121,7 @@ int main(void)
     compose(4, 2);
     put32(report + 48 + 12, 199000);
     failed |= measured("forced work that fits in each minute, not beside the highest derating", 0, 0);
+    called = there_and_back;
+    failed |= measured("a date printed and read", 0, 0);
     return failed;
 }

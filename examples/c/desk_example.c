@@ -1,6 +1,6 @@
 /*
- * Paper 01's roster A and the five reports of its log, judged through the C interface; then parts that break cover, an empty report
- * and the remark. C99, and C++ as well. Build the library with `rt staticlib desk`; then, from the top of the repository:
+ * Paper 01's roster A and the five reports of its log, judged through the C interface; then parts that break cover, an empty report,
+ * the remark, and dates. C99, and C++ as well. Build the library with `rt staticlib desk`; then, from the top of the repository:
  *
  *     gcc -std=c99 -Iinclude examples/c/desk_example.c target/staticlib/libdesk.a -o example && ./example
  *
@@ -208,6 +208,28 @@ static void no_remark(const char *standing)
     expect("length", (uint32_t)length, 0);
 }
 
+static void read_date(const char *text, uint32_t number, uint32_t minute)
+{
+    uint64_t got = desk_read_date((const uint8_t *)text, strlen(text));
+    if (desk_number_of(got) == DESK_ACCEPTED) {
+        printf("\"%s\" is minute %u\n", text, (unsigned)desk_value(got));
+    } else {
+        printf("\"%s\": %u, no minute has this date\n", text, (unsigned)desk_number_of(got));
+    }
+    expect("number of a date", desk_number_of(got), number);
+    expect("minute of a date", desk_value(got), minute);
+}
+
+/* The text has room for a 0 at the end, which stays where it was put. */
+static void print_date(uint32_t minute, size_t room, uint32_t number, const char *wanted)
+{
+    char text[DESK_DATE_SIZE + 1] = "................";
+    uint32_t got = desk_print_date(minute, (uint8_t *)text, room);
+    printf("minute %u into %u bytes: %u, \"%s\"\n", (unsigned)minute, (unsigned)room, (unsigned)got, text);
+    expect("number of a print", got, number);
+    expect("the print differs", strcmp(text, wanted) != 0, 0);
+}
+
 int main(void)
 {
     static uint8_t reg[UNITS * DESK_BLOCK_SIZE];
@@ -255,6 +277,13 @@ int main(void)
     remark("remark of a report with a text", &told, standing, "feed pump B is out");
     remark("remark of report 1, which has none", &reports[0], standing, standing);
     no_remark(standing);
+
+    read_date("2026-03-01 00:10", DESK_ACCEPTED, D + 10);
+    read_date("2026-02-29 00:10", DESK_REFUSED_DATE, 0);
+    read_date("", DESK_REFUSED_DATE, 0);
+    print_date(D + 10, DESK_DATE_SIZE, DESK_ACCEPTED, "2026-03-01 00:10");
+    print_date(26298720, DESK_DATE_SIZE, DESK_REFUSED_MINUTE, "................");
+    print_date(D + 10, DESK_DATE_SIZE - 1, DESK_REFUSED_ROOM, "................");
 
     printf(unexpected ? "NOT all as expected\n" : "all as expected\n");
     return unexpected;

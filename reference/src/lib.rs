@@ -1,4 +1,4 @@
-//! Paper 01, the unit register, with requests A1 and A2 of paper 02, written from the papers alone:
+//! Paper 01, the unit register, with requests A1 to A3 of paper 02, written from the papers alone:
 //! an independent reference.
 //!
 //! The modules follow the sections of paper 01. Identifiers are the field's terms; where the
@@ -38,7 +38,7 @@ pub mod unit;
 pub mod warnings;
 pub mod worked_examples;
 
-pub use calendar::date;
+pub use calendar::{date, print_date, read_date};
 pub use processor::{answer, Answer};
 pub use remark::remark;
 pub use setup::set_up;

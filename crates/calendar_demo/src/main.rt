@@ -1,11 +1,14 @@
 // Prints the first and the last minute of every month, some minutes between, and one past the end,
-// each with its date or its refusal.
+// each with its date or its refusal; then dates that are read.
+mod typed;
+
 use quantities::Minute;
 
 fn main() {
     print_month_bounds();
     print_between();
     print_line(26298720);
+    typed::print_cases();
 }
 
 fn print_month_bounds() {

@@ -1,6 +1,7 @@
-// The desk: set-up, and the answer to a report on the register.
+// The desk: set-up, the answer to a report on the register, and the C interface to all that the library does.
 use after::Plan;
 use block::BLOCK_SIZE;
+use quantities::Minute;
 use rules::Answer;
 ghost use mathlib.Core.Path.{_≡_};
 ghost use Prim.Native.Nat.{_≤_};
@@ -11,7 +12,8 @@ ghost use Rattle.rules.specs.Judge.{refusal as refusalOf, judge as judged};
 ghost use Rattle.rules.specs.Desk.{setUp, question3, answerTo};
 ghost use Rattle.rules.specs.Block.{unitHead};
 ghost use Rattle.rules.specs.Whole.{blockWhole};
-ghost use Rattle.desk.specs.Packed.{packed, packedRemark};
+ghost use Rattle.calendar.specs.Reading.{dateRead, putAnswer, datePut};
+ghost use Rattle.desk.specs.Packed.{packed, packedRemark, packedDate};
 
 fn refusal(number: u8) -> Answer
     ensures { λ r. ⌜ r ≡ refusalOf number ⌝ }
@@ -122,4 +124,22 @@ pub extern "C" fn desk_remark(
     *place = p.start as u64;
     *length = p.length as u64;
     p.number as u32 + 256 * (p.standing as u32)
+}
+
+// The C interface: the number, and 2^32 times the minute.
+#[no_mangle]
+pub extern "C" fn desk_read_date(text: &[u8]) -> u64
+    ensures { λ r. ⌜ r ≡ packedDate (dateRead (now (text .entry))) ⌝ }
+{
+    let read = calendar::read_date(text);
+    (read.number as u64) + 4294967296 * (read.minute.0 as u64)
+}
+
+// The C interface: 0, 22 or 43.
+#[no_mangle]
+pub extern "C" fn desk_print_date(minute: u32, text: &mut [u8]) -> u32
+    ensures { λ r. ⌜ r ≡ putAnswer (record { 0 = minute }) (now (text .entry)) ⌝ }
+    ensures { λ _. ⌜ now (text .exit) ≡ datePut (record { 0 = minute }) (now (text .entry)) ⌝ }
+{
+    calendar::put_date(Minute(minute), text) as u32
 }

@@ -11,7 +11,7 @@ use lib.Seq.{take-suc}
 use borrow.Author.Tests.{eq-eqb, ne-eqb}
 use Rattle.fields.specs.Lists.{pick}
 use Rattle.fields.proofs.Slices.{put-nothing}
-use Rattle.log.specs.Ascii.{ascii}
+use Rattle.fields.specs.Ascii.{ascii}
 use Rattle.log.specs.Remarks.{hexDigit, shownByte, shown}
 use Rattle.log.proofs.Texts.{Put, put-then}
 

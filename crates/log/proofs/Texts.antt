@@ -18,7 +18,7 @@ use Rattle.calendar.specs.Calendar.{digit, dateOf, dateText, printed}
 use Rattle.report.specs.Report.{headOf}
 use Rattle.rules.specs.declared.Answer.{Answer}
 use Rattle.log.specs.declared.Totals.{Totals}
-use Rattle.log.specs.Ascii.{ascii}
+use Rattle.fields.specs.Ascii.{ascii}
 use Rattle.log.specs.Log.{decimalBefore, decimal, space, lineFeed, hyphen, faultLine, setUpLine, unitText, stampText, numberColumn}
 use Rattle.log.specs.Log.{lineText, totalsLine}
 use Rattle.log.specs.Run.{mostCounted}
@@ -35,17 +35,6 @@ put-then here there last at mid end x y p q =
 -- a text that equals another
 pub put-same : (here there : List ℕ) (at end : ℕ) {x y : List ℕ} → x ≡ y → Put here at x there end → Put here at y there end
 put-same here there at end e p = rw e at p
-
--- a text copied byte by byte
-pub copied : (here there last word : List ℕ) (at j v : ℕ) → j < length word → there ≡ put here at (take j word)
-    → v ≡ getD word j 0 → last ≡ put there (at + j) (v ∷ []) → last ≡ put here at (take (j + 1) word)
-copied here there last word at j v l e q p =
-    let s : j + 1 ≡ suc j = omega arith in
-    let n : length (take j word) ≡ j = length-take-le j word (omega arith) in
-    let k : at + length (take j word) ≡ at + j = rw n in
-    let m : put (put here at (take j word)) (at + j) (v ∷ []) ≡ put here at (take j word ++ (v ∷ [])) =
-    rw (← k) (sym (put-append (take j word) (v ∷ []) here at)) in
-    p ∙ rw (e, m, q, s, take-suc word j 0 l)
 
 -- the digits before a text are the digits, and then the text
 decimal-before : (places n : ℕ) (text : List ℕ) → decimalBefore places n text ≡ decimalBefore places n [] ++ text

@@ -1,4 +1,3 @@
-pub mod Ascii
 pub mod Log
 pub mod Remarks
 pub mod Run

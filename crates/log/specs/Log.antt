@@ -10,7 +10,7 @@ use Rattle.calendar.specs.Calendar.{digit, dateOf, dateText}
 use Rattle.report.specs.Report.{headOf}
 use Rattle.rules.specs.declared.Answer.{Answer}
 use Rattle.log.specs.declared.Totals.{Totals}
-use Rattle.log.specs.Ascii.{ascii}
+use Rattle.fields.specs.Ascii.{ascii}
 
 -- a number in decimal, without leading zeros, before a text: up to `places` digits
 unfoldable pub decimalBefore : ℕ → ℕ → List ℕ → List ℕ

@@ -6,7 +6,7 @@ use lib.Dec.{leb, ltb, eqb}
 use Rattle.fields.specs.Lists.{pick}
 use Rattle.report.specs.Remark.{remarkOf}
 use Rattle.rules.specs.declared.Answer.{Answer}
-use Rattle.log.specs.Ascii.{ascii}
+use Rattle.fields.specs.Ascii.{ascii}
 use Rattle.log.specs.Log.{lineFeed, headerText, lineText}
 
 -- 0 to 15 as 0 to 9 and a to f

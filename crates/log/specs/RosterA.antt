@@ -2,7 +2,7 @@
 use mathlib.Core.List.{List, [], _∷_, _++_}
 use Prim.Native.Nat.{ℕ}
 use Rattle.rules.specs.Cases.{rosterA, loggedReports}
-use Rattle.log.specs.Ascii.{ascii}
+use Rattle.fields.specs.Ascii.{ascii}
 
 unfoldable pub oneAfterOther : List (List ℕ) → List ℕ
 oneAfterOther [] = []

@@ -48,9 +48,7 @@ fn put_text(text: &mut [u8], at: usize, word: &[u8]) -> usize
     ensures { λ r. ⌜ r ≡ at + length (now (word .entry)) ⌝ }
     ensures { λ _. ⌜ now (text .exit) ≡ put (now (text .entry)) at (now (word .entry)) ⌝ }
 {
-    for j in 0..word.len() {
-        fields::put_u8(text, at + j, word[j]);
-    }
+    fields::put_bytes(text, at, word);
     at + word.len()
 }
 

@@ -2,6 +2,8 @@
 
 #![warn(missing_docs)]
 
+use reference::quantities::Minute;
+
 extern "C" {
     fn desk_set_up(
         roster: *const u8,
@@ -23,6 +25,8 @@ extern "C" {
         place: *mut u64,
         length: *mut u64,
     ) -> u32;
+    fn desk_read_date(text: *const u8, text_length: usize) -> u64;
+    fn desk_print_date(minute: u32, text: *mut u8, text_length: usize) -> u32;
 }
 
 /// Set-up: 0, 20 or 21.
@@ -98,4 +102,36 @@ pub fn remark(report: &[u8], standing: &[u8]) -> Remark {
         place,
         length,
     }
+}
+
+// Dates take a few nanoseconds, so both sides are wrapped alike: each is a call of the library or of the reference.
+
+/// Number, 0 or 23, and minute of a text.
+#[inline]
+pub fn read_date(text: &[u8]) -> (u32, u32) {
+    // SAFETY: a whole Rust slice; any bytes and lengths are allowed.
+    let packed = unsafe { desk_read_date(text.as_ptr(), text.len()) };
+    (packed as u32, (packed >> 32) as u32)
+}
+
+/// The same by the reference.
+#[inline]
+pub fn reference_read_date(text: &[u8]) -> (u32, u32) {
+    match reference::read_date(text) {
+        Ok(Minute(minute)) => (0, minute),
+        Err(number) => (number.into(), 0),
+    }
+}
+
+/// Prints a minute's date into the first bytes of a text: 0, 22 or 43.
+#[inline]
+pub fn print_date(minute: u32, text: &mut [u8]) -> u32 {
+    // SAFETY: as for reading; the desk writes into the slice alone.
+    unsafe { desk_print_date(minute, text.as_mut_ptr(), text.len()) }
+}
+
+/// The same by the reference.
+#[inline]
+pub fn reference_print_date(minute: u32, text: &mut [u8]) -> u32 {
+    reference::print_date(minute, text).map_or_else(u32::from, |()| 0)
 }

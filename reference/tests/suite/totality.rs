@@ -5,7 +5,7 @@ use reference::register::{question_1_register_whole, BLOCK_SIZE};
 use reference::report::question_2_report_whole;
 use reference::show::show;
 use reference::source::{damaged_register, whole_register, Source};
-use reference::{answer, date, remark, set_up, shift_log};
+use reference::{answer, date, print_date, read_date, remark, set_up, shift_log};
 
 fn noise(random: &mut Random, most: u32) -> Vec<u8> {
     let length = random.below(most);
@@ -51,7 +51,9 @@ fn noise_everywhere() {
         assert!(set_up(&roster, &mut register) >= 20 && register == before);
         check_answer(&mut register, &report);
         assert_eq!(shift_log(&report), b"roster 20\n");
-        let _ = date(random.bits() as u32);
+        let minute = random.bits() as u32;
+        let _ = (date(minute), print_date(minute, &mut register));
+        assert_eq!(read_date(&report), Err(23));
     }
 }
 

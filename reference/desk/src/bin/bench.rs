@@ -1,10 +1,12 @@
 //! Times the proved desk beside the reference, in one process and on the same inputs.
 
-use desk_comparison::{reference_answer, Answer};
+use desk_comparison::{reference_answer, reference_print_date, reference_read_date, Answer};
+use reference::calendar::{DATE_SIZE, NO_PRINT};
 use reference::codes::{Direction, Mark, Operation, RecordType, UnitKind};
 use reference::compose::{EntryFields, ReportFields, SlotFields};
 use reference::fields::put_u16;
-use reference::quantities::{Minute, QUARTER};
+use reference::quantities::{Minute, LAST_MINUTE, QUARTER};
+use reference::random::Random;
 use reference::record::MAX_PARTS;
 use reference::register::{
     head, put_last_stamp, slot_bytes, BLOCK_SIZE, HEAD_SIZE, MAX_UNITS, SLOT_SIZE,
@@ -368,10 +370,13 @@ fn print_growth_by_parts(row: &str, first_level: u32, all_parts: &[u32]) -> Opti
 /// Prints the µs a report of both sides, which it gives.
 fn print_micros(name: &str, rates: [f64; 2]) -> [f64; 2] {
     let micros = rates.map(|rate| 1e6 / rate);
-    let [rattle, rust] = micros;
+    print_times(name, micros);
+    micros
+}
+
+fn print_times(name: &str, [rattle, rust]: [f64; 2]) {
     let ratio = rust / rattle;
     println!("{name:<44} {rattle:>12.2} {rust:>12.2} {ratio:>12.2}");
-    micros
 }
 
 /// Deratings of a hundred parts, refused with 8 at the first, at a middle and at the last part.
@@ -394,6 +399,116 @@ fn print_early_ends() -> Option<()> {
     Some(())
 }
 
+/// Number and minute of a text.
+type ReadDate = fn(&[u8]) -> (u32, u32);
+/// Prints a minute's date.
+type PrintDate = fn(u32, &mut [u8]) -> u32;
+
+const READ_DATE: [ReadDate; 2] = [desk_comparison::read_date, reference_read_date];
+const PRINT_DATE: [PrintDate; 2] = [desk_comparison::print_date, reference_print_date];
+
+fn random_minutes() -> Vec<u32> {
+    const MINUTES: usize = 2_000;
+    let mut random = Random::new(0);
+    let minutes = (0..MINUTES).map(|_| random.between(0..=LAST_MINUTE.0));
+    minutes.collect()
+}
+
+fn printed(minute: u32, print: PrintDate) -> Vec<u8> {
+    let mut text = vec![0; DATE_SIZE];
+    print(minute, &mut text);
+    text
+}
+
+/// The same texts, each with something wrong in it.
+fn spoiled(prints: &[Vec<u8>]) -> Vec<Vec<u8>> {
+    const FAULTS: [(usize, &str); 14] = [
+        (0, "1999"),
+        (0, "2050"),
+        (4, "/"),
+        (5, "00"),
+        (5, "13"),
+        (5, "02-30"),
+        (5, "04-31"),
+        (8, "00"),
+        (8, "32"),
+        (9, " "),
+        (10, "T"),
+        (11, "24"),
+        (14, "60"),
+        (15, "x"),
+    ];
+    let mut random = Random::new(1);
+    let mut spoil = |print: &Vec<u8>| {
+        let mut text = print.clone();
+        match random.below(8) {
+            0 => text.truncate(DATE_SIZE - 1),
+            1 => text.push(b' '),
+            _ => {
+                let (at, fault) = random.pick(&FAULTS);
+                text[at..at + fault.len()].copy_from_slice(fault.as_bytes());
+            }
+        }
+        text
+    };
+    prints.iter().map(&mut spoil).collect()
+}
+
+/// The ns a text of both sides; None if they read it differently or with another number.
+fn print_reading(name: &str, texts: &[Vec<u8>], expected: u8) -> Option<()> {
+    let [rattle, rust] =
+        READ_DATE.map(|read| texts.iter().map(|text| read(text)).collect::<Vec<_>>());
+    let right = |&(number, _): &(u32, u32)| number == u32::from(expected);
+    if rattle != rust || !rattle.iter().all(right) {
+        println!("{name:<44} wrong answers");
+        return None;
+    }
+    let seconds = fastest(|side| {
+        let read = READ_DATE[side];
+        timed(|| {
+            for text in texts {
+                black_box(read(black_box(text)));
+            }
+        })
+    });
+    print_times(name, seconds.map(|all| 1e9 * all / texts.len() as f64));
+    Some(())
+}
+
+/// The ns a date of both sides; None if they print one differently.
+fn print_printing(name: &str, minutes: &[u32]) -> Option<()> {
+    let same = |&minute: &u32| {
+        let [rattle, rust] = PRINT_DATE.map(|print| printed(minute, print));
+        rattle == rust
+    };
+    if !minutes.iter().all(same) {
+        println!("{name:<44} wrong dates");
+        return None;
+    }
+    let mut text = [0; DATE_SIZE];
+    let seconds = fastest(|side| {
+        let print = PRINT_DATE[side];
+        timed(|| {
+            for &minute in minutes {
+                black_box(print(black_box(minute), black_box(&mut text)));
+            }
+        })
+    });
+    print_times(name, seconds.map(|all| 1e9 * all / minutes.len() as f64));
+    Some(())
+}
+
+fn print_dates() -> Option<()> {
+    let minutes = random_minutes();
+    let prints = minutes.iter();
+    let prints: Vec<_> = prints
+        .map(|&minute| printed(minute, reference_print_date))
+        .collect();
+    print_reading("(i) dates read", &prints, 0)?;
+    print_reading("(i) texts refused", &spoiled(&prints), NO_PRINT)?;
+    print_printing("(i) dates printed", &minutes)
+}
+
 fn bench() -> Option<()> {
     print_head("reports per second");
     print_rates("(a) 2 units, ordinary stream", &stream(2), None)?;
@@ -414,7 +529,9 @@ fn bench() -> Option<()> {
     print_growth_by_parts("(e) 1 unit, forced work", FAR, &[1, 10, MOST_PARTS])?;
     print_growth_by_parts("(f) the same near a limit", NEAR, &[10, MOST_PARTS])?;
     print_uncovered()?;
-    print_early_ends()
+    print_early_ends()?;
+    print_head("ns a date");
+    print_dates()
 }
 
 fn main() -> ExitCode {

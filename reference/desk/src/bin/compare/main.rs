@@ -1,7 +1,9 @@
-//! Compares the proved desk with the reference: numbers, warnings, parts and every byte.
+//! Compares the proved desk with the reference: numbers, warnings, parts, dates and every byte.
 
 mod case;
 mod damaged;
+mod date_kinds;
+mod dates;
 mod remarks;
 mod stages;
 mod tally;

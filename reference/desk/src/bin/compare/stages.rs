@@ -2,6 +2,7 @@
 
 use crate::case::{answer, set_up, Difference};
 use crate::damaged;
+use crate::dates;
 use crate::remarks::{compare, random_standing, with_random_text, with_text};
 use crate::tally::Tally;
 use reference::damage::{base, variants};
@@ -15,7 +16,7 @@ use reference::worked_examples::{
 };
 
 /// The number of calls compared, or the first difference.
-type Outcome = Result<u64, Box<Difference>>;
+pub type Outcome = Result<u64, Box<Difference>>;
 
 /// A stage.
 pub struct Stage {
@@ -26,7 +27,7 @@ pub struct Stage {
 }
 
 /// All stages.
-pub const STAGES: [Stage; 8] = [
+pub const STAGES: [Stage; 11] = [
     Stage {
         name: "worked examples",
         run: worked_examples,
@@ -58,6 +59,18 @@ pub const STAGES: [Stage; 8] = [
     Stage {
         name: "remarks",
         run: remarks,
+    },
+    Stage {
+        name: "dates of every minute",
+        run: dates::every_minute,
+    },
+    Stage {
+        name: "dates printed into places of any length",
+        run: dates::printed,
+    },
+    Stage {
+        name: "dates typed back in",
+        run: dates::typed,
     },
 ];
 

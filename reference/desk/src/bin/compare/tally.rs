@@ -1,5 +1,6 @@
-//! How often each answer, each warning, each way to break cover and each kind of early end occurred.
+//! How often each answer, warning, way to break cover, kind of early end and kind of date occurred.
 
+use crate::date_kinds;
 use desk_comparison::Answer;
 use reference::cover_faults::{cover_fault, KINDS};
 use reference::early_ends::{self, early_end_kinds};
@@ -19,6 +20,7 @@ pub struct Tally {
     refused_rosters: u64,
     refused_buffers: u64,
     remarks: BTreeMap<&'static str, u64>,
+    dates: BTreeMap<&'static str, u64>,
 }
 
 impl Tally {
@@ -60,6 +62,11 @@ impl Tally {
         }
     }
 
+    /// Counts so many dates of a kind.
+    pub fn count_dates(&mut self, kind: &'static str, dates: u64) {
+        *self.dates.entry(kind).or_default() += dates;
+    }
+
     fn warning(&self, warning: u32) -> u64 {
         let sums = self.sums.iter().zip(0..);
         sums.filter(|(_, sum)| sum & warning != 0)
@@ -69,6 +76,10 @@ impl Tally {
 
     fn early_end(&self, kind: &str) -> u64 {
         self.early_ends.get(kind).copied().unwrap_or_default()
+    }
+
+    fn date(&self, kind: &str) -> u64 {
+        self.dates.get(kind).copied().unwrap_or_default()
     }
 
     fn rows(&self) -> Vec<(String, u64)> {
@@ -87,10 +98,12 @@ impl Tally {
         let set_ups = set_ups.map(|(name, count)| (name.to_string(), count));
         let remarks = self.remarks.iter();
         let remarks = remarks.map(|(kind, &count)| (format!("remark: {kind}"), count));
+        let dates = date_kinds::kinds().map(|kind| (format!("date: {kind}"), self.date(kind)));
         let rows = answers.chain(warnings).chain(cover_faults);
         rows.chain(early_ends)
             .chain(set_ups)
             .chain(remarks)
+            .chain(dates)
             .collect()
     }
 

@@ -1,0 +1,19 @@
+use borrow.Author.Needs.{needs}
+use Rattle.fields.specs.Lists.{every, and-each}
+use Rattle.calendar.proofs.has_time_form.Statement.{statement}
+use Rattle.calendar.proofs.has_time_form.Tie as tie
+
+returns : tie.Need-returns
+unfolding every and-each
+returns c = cc
+
+pub has-time-form-spec : {M : Type 1} → statement M
+has-time-form-spec =
+    tie.close
+    (tie.spec
+    (λ c. search needs)
+    (λ c κs. search needs)
+    (λ c. search needs)
+    (λ c. search needs)
+    (λ c κs. search needs)
+    returns)
