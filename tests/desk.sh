@@ -105,6 +105,18 @@ dates() {
     ./desk date - < <(printf '%s\n' '2026-03-01 00:10' '' 0 26298720)
   logged <(printf '') ./desk date - < /dev/null
   refused 1 "typed_dates: standard input can't be read: Is a directory" bash -c './desk date - < samples'
+  refused 1 "typed_dates: standard output can't be written: No space left on device" bash -c 'echo 0 | ./desk date - > /dev/full'
+  refused 1 "desk: standard output can't be written" bash -c './desk date 0 > /dev/full'
+  cut_file
+}
+
+# what was written before there was no more room is whole lines and a piece of one, and it is told
+cut_file() {
+  seq 1 100 > "$room/minutes"
+  (ulimit -f 1 && exec ./desk date -) < "$room/minutes" > "$room/cut" 2> "$room/err"
+  told 'no room: no status' [ $? -eq 1 ]
+  told "no room: it said $(cat "$room/err")" grep -qx "typed_dates: standard output can't be written: File too large" "$room/err"
+  told 'no room: not the first 1,024 bytes' cmp "$room/cut" <(./desk date - < "$room/minutes" | head -c 1024)
 }
 
 # a copy of the script at the top of a bare folder, with stand-ins for rt
@@ -182,6 +194,7 @@ excerpt() {
 # page_of_dates: what the page has the desk say it says, and its table is right
 page_of_dates() {
   local page=docs/DATES.md line text answer rows=0
+  told 'no date is given' ./desk date 0 > /dev/null 2>&1
   awk '/^```$/ { inside = !inside; next } inside' "$page" > "$room/said"
   while IFS= read -r line; do
     printf '%s\n' "$line" && bash -c "${line#'$ '}" 2>&1

@@ -5,8 +5,7 @@ use mathlib.Core.Path.{_≡_}
 use mathlib.Core.List.{List, [], _∷_, _++_}
 use lib.ListN.{replicate}
 use Rattle.fields.specs.Ascii.{ascii}
-use Rattle.quantities.specs.declared.Minute.{Minute}
-use Rattle.calendar.specs.Reading.{readMinute, noMinute, dateRead, putAnswer, datePut}
+use Rattle.calendar.specs.Reading.{dateRead, putAnswer, datePut}
 
 -- a text and the minute that it gives
 pub record TypedDate : Type 0 where
@@ -118,11 +117,11 @@ textsRefused =
 
 abbrev pub AreRead : List TypedDate → Type 0
 AreRead [] = Unit {0}
-AreRead (d ∷ ds) = (dateRead (ascii (d .text)) ≡ readMinute (d .minute)) × AreRead ds
+AreRead (d ∷ ds) = (dateRead (ascii (d .text)) ≡ record { number = 0; minute = record { 0 = d .minute } }) × AreRead ds
 
 abbrev pub AreRefused : List String → Type 0
 AreRefused [] = Unit {0}
-AreRefused (text ∷ texts) = (dateRead (ascii text) ≡ noMinute) × AreRefused texts
+AreRefused (text ∷ texts) = (dateRead (ascii text) ≡ record { number = 23; minute = record { 0 = 0 } }) × AreRefused texts
 
 -- A lent text, of n bytes 7, before and after: "0, 22, then 43 where the text has fewer than 16 bytes; bytes past the sixteenth stay".
 abbrev pub lent : ℕ → List ℕ
