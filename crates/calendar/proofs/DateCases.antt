@@ -9,12 +9,11 @@ use borrow.Author.Tests.{eqb-true}
 use Rattle.fields.specs.Ascii.{ascii}
 use Rattle.fields.specs.Lists.{pick, every, and-each, all, put}
 use Rattle.fields.proofs.Bools.{and-left, and-right}
-use Rattle.quantities.specs.declared.Minute.{Minute}
 use Rattle.calendar.specs.declared.DateRead.{DateRead}
 use Rattle.calendar.specs.Calendar.{daysIn, monthStart, minuteOf}
 use Rattle.calendar.specs.Reading.{printOf, readMinute, noMinute, dateRead}
 use Rattle.calendar.specs.Digits.{digitValue, hasDateForm, dateIn, minuteInMonth, minuteRead, dateByDigits}
-use Rattle.calendar.specs.DateCases.{TypedDate, datesRead, textsRefused, AreRead, AreRefused, left, RoomIsAsked}
+use Rattle.calendar.specs.DateCases.{TypedDate, datesRead, textsRefused, AreRead, AreRefused, RoomIsAsked}
 use Rattle.calendar.proofs.Reading.{by-digits, text-printed}
 
 sameRead : DateRead → DateRead → Bool

@@ -1,5 +1,5 @@
 -- A date's digits give the date again, and a text's digits its minute: the one whose print it is. Assumes nothing.
-use Prim.Native.Nat.{ℕ, suc, _+_, _-_, _*_, _/_, _%_, _≤_, _<_}
+use Prim.Native.Nat.{ℕ, _+_, _-_, _*_, _/_, _%_, _≤_, _<_}
 use mathlib.Core.Path.{_≡_, refl, ap, sym, _∙_}
 use mathlib.Core.Bool.{Bool, true, false, _&&_, and-false, false≢true}
 use mathlib.Core.List.{List, [], _∷_}
@@ -21,7 +21,7 @@ use Rattle.calendar.specs.declared.Date.{Date}
 use Rattle.calendar.specs.declared.DateRead.{DateRead}
 use Rattle.calendar.specs.Calendar.{digit, daysIn, monthLength, monthStart, minuteOf, dateOf, dateText, RightDate}
 use Rattle.calendar.specs.Reading.{printOf, isPrintOf, PrintIs, printedMinute, readMinute, noMinute, dateRead}
-use Rattle.calendar.specs.Digits.{digitValue, twoDigits, yearForm, dayForm, timeForm, hasDateForm, dateIn, isMonth, monthNumber, isDayAndMinute, minuteInMonth, minuteRead, dateByDigits}
+use Rattle.calendar.specs.Digits.{digitValue, twoDigits, yearForm, dayForm, timeForm, hasDateForm, dateIn, isMonth, isDayAndMinute, minuteInMonth, minuteRead, dateByDigits}
 use Rattle.calendar.proofs.Months.{start-mono}
 use Rattle.calendar.proofs.Dates.{years-end, start-next, date-right, date-only}
 
@@ -180,7 +180,10 @@ right-day d r =
     and-both (and-both (and-both (le-leb _ _ (r .in-month .0)) (le-leb _ _ (r .in-month .1))) (lt-ltb _ _ (r .in-day)))
     (lt-ltb _ _ (r .in-hour))
 
--- the month of a date, and the day after it
+-- the month of a date, counted from January 2000, and the day after it
+abbrev monthNumber : Date → ℕ
+monthNumber d = (d .year - 2000) * 12 + (d .month - 1)
+
 module _ (d : Date) (r : (2000 ≤ d .year) × (d .year ≤ 2049) × (1 ≤ d .month) × (d .month ≤ 12)) where
   month-length : monthStart (monthNumber d + 1) ≡ monthStart (monthNumber d) + daysIn (d .year) (d .month)
   month-length =

@@ -47,10 +47,6 @@ dateIn s = record {
 abbrev pub isMonth : Date → Bool
 isMonth d = leb 2000 (d .year) && leb (d .year) 2049 && leb 1 (d .month) && leb (d .month) 12
 
--- counted from January 2000
-abbrev pub monthNumber : Date → ℕ
-monthNumber d = (d .year - 2000) * 12 + (d .month - 1)
-
 -- a day of a month of so many, and a minute of a day
 abbrev pub isDayAndMinute : Date → ℕ → Bool
 isDayAndMinute d days = leb 1 (d .day) && leb (d .day) days && ltb (d .hour) 24 && ltb (d .minute) 60

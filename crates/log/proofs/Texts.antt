@@ -6,8 +6,7 @@ use mathlib.Core.List.{List, [], _∷_, _++_, append-assoc}
 use native.Mathlib.Nat.{zero-add}
 use native.Mathlib.Omega.{arith}
 use lib.Dec.{ltb, eqb}
-use lib.ListN.{length, take, getD, replicate, length-append}
-use lib.Seq.{length-take-le, take-suc}
+use lib.ListN.{length, replicate, length-append}
 use borrow.Author.Tests.{lt-ltb, le-ltb}
 use Rattle.fields.specs.Lists.{pick, put}
 use Rattle.fields.proofs.Bools.{and-right, pick-elim}

@@ -4,7 +4,6 @@ use libc::STDIN_FILENO;
 use libc::STDOUT_FILENO;
 use quantities::Minute;
 ghost use mathlib.Core.Path.{_≡_};
-ghost use Prim.Native.Nat.{_≤_};
 ghost use lib.ListN.{length};
 
 // What was read of a line: its length, counted to 17, and its number, counted no further than past the last minute, if it is one;

@@ -1,8 +1,8 @@
 use Prim.Native.Nat.{_≤_, _-_}
-use mathlib.Core.Path.{_≡_, refl, ap, _∙_}
+use mathlib.Core.Path.{_≡_, refl, _∙_}
 use native.Mathlib.Omega.{arith}
 use borrow.Author.Needs.{needs}
-use lib.ListN.{length, take, set, length-set}
+use lib.ListN.{length, take, length-set}
 use Rattle.fields.specs.Lists.{put}
 use Rattle.fields.proofs.Slices.{put-taken, put-fitting}
 use Rattle.fields.proofs.put_bytes.Statement.{statement}
