@@ -3,21 +3,30 @@ use libc::STDOUT_FILENO;
 use quantities::Minute;
 
 pub(crate) fn print_cases() {
+    print_month_ends();
+    print_februaries();
     print_days();
     print_months();
     print_times();
-    print_years();
+    print_first();
+    print_last();
     print_separators();
     print_characters();
     print_lengths();
 }
 
-fn print_days() {
+fn print_month_ends() {
     print_case(b"the example of the paper", b"2026-03-01 00:10");
     print_case(b"the last day of a month of 30", b"2025-04-30 00:00");
     print_case(b"the 31st of a month of 30", b"2025-04-31 00:00");
+}
+
+fn print_februaries() {
     print_case(b"29 February of a leap year", b"2024-02-29 00:00");
     print_case(b"29 February of another year", b"2025-02-29 00:00");
+}
+
+fn print_days() {
     print_case(b"day 00", b"2026-03-00 00:10");
     print_case(b"day 32", b"2026-03-32 00:10");
 }
@@ -34,9 +43,12 @@ fn print_times() {
     print_case(b"minute 60", b"2026-03-01 00:60");
 }
 
-fn print_years() {
+fn print_first() {
     print_case(b"the first minute", b"2000-01-01 00:00");
     print_case(b"the minute before it", b"1999-12-31 23:59");
+}
+
+fn print_last() {
     print_case(b"the last minute", b"2049-12-31 23:59");
     print_case(b"the minute after it", b"2050-01-01 00:00");
 }
