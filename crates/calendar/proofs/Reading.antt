@@ -23,7 +23,7 @@ use Rattle.calendar.specs.Calendar.{digit, daysIn, monthLength, monthSta
 use Rattle.calendar.specs.Reading.{printOf, isPrintOf, PrintIs, printedMinute, readMinute, noMinute, dateRead}
 use Rattle.calendar.specs.Digits.{digitValue, twoDigits, yearForm, dayForm, timeForm, hasDateForm, dateIn, isMonth, isDayAndMinute, minuteInMonth, minuteRead, dateByDigits}
 use Rattle.calendar.proofs.Months.{start-mono}
-use Rattle.calendar.proofs.Dates.{years-end, start-next, date-right, date-only}
+use Rattle.calendar.proofs.Dates.{years-end, start-next, date-right, monthNumber, year-and-month, date-only}
 
 -- a digit and its value
 value-of : (n : ℕ) → digitValue (digit n) ≡ n % 10
@@ -180,16 +180,12 @@ right-day d r =
     and-both (and-both (and-both (le-leb _ _ (r .in-month .0)) (le-leb _ _ (r .in-month .1))) (lt-ltb _ _ (r .in-day)))
     (lt-ltb _ _ (r .in-hour))
 
--- the month of a date, counted from January 2000, and the day after it
-abbrev monthNumber : Date → ℕ
-monthNumber d = (d .year - 2000) * 12 + (d .month - 1)
-
+-- the month of a date, and the day after it
 module _ (d : Date) (r : (2000 ≤ d .year) × (d .year ≤ 2049) × (1 ≤ d .month) × (d .month ≤ 12)) where
   month-length : monthStart (monthNumber d + 1) ≡ monthStart (monthNumber d) + daysIn (d .year) (d .month)
   month-length =
-      let y : 2000 + monthNumber d / 12 ≡ d .year = omega (arith, r) in
-      let n : monthNumber d % 12 + 1 ≡ d .month = omega (arith, r) in
-      let len : monthLength (monthNumber d) ≡ daysIn (d .year) (d .month) = rw (y, n) in
+      let e = year-and-month d (r .0) (r .2) (r .3) in
+      let len : monthLength (monthNumber d) ≡ daysIn (d .year) (d .month) = rw (e .0, e .1) in
       rw (add-one, start-next (monthNumber d), len)
 
   month-end : monthStart (monthNumber d) + daysIn (d .year) (d .month) ≤ 18263

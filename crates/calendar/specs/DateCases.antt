@@ -123,7 +123,7 @@ abbrev pub AreRefused : List String → Type 0
 AreRefused [] = Unit {0}
 AreRefused (text ∷ texts) = (dateRead (ascii text) ≡ record { number = 23; minute = record { 0 = 0 } }) × AreRefused texts
 
--- A lent text, of n bytes 7, before and after: "0, 22, then 43 where the text has fewer than 16 bytes; bytes past the sixteenth stay".
+-- A lent text of n bytes 7 that a date is printed into: which number, and what it holds then.
 abbrev pub lent : ℕ → List ℕ
 lent n = replicate n 7
 

@@ -7,7 +7,7 @@ use Rattle.calendar.proofs.first_day.Tie as tie
 returns : tie.Need-returns
 returns c =
     let start = c .before .args in
-    (rw (c .before-march .ensures .0) (first-by (start .years) (start .months) (omega arith) (omega arith)), omega arith)
+    (rw (c .quarters-before-march .ensures .0) (first-by (start .years) (start .months) (omega arith) (omega arith)), omega arith)
 
 pub first-day-spec : {M : Type 1} → statement M
 first-day-spec =
