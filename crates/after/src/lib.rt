@@ -15,7 +15,7 @@ use report::MOST_PARTS;
 use rules::Row;
 
 // The slots that are cleared, the slot written (8: none), and whether the row changes.
-#[derive(Drop)]
+#[derive(Clone, Copy)]
 pub struct Plan {
     pub cleared: [bool; 8],
     pub written: u8,

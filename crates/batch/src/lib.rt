@@ -14,7 +14,7 @@ pub const LINE_SIZE: usize = 128;
 
 // The progress after the reports, how many bytes of the input they are and of the text their lines, whether one was accepted, and
 // whether one ends the run.
-#[derive(Drop)]
+#[derive(Clone, Copy)]
 pub struct Batch {
     pub progress: Progress,
     pub taken: usize,

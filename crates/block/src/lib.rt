@@ -45,14 +45,14 @@ pub const ENTRY_SIZE: usize = 28;
 pub const MOST_UNITS: usize = 64;
 
 // Where a part in a slot ends, and its power.
-#[derive(Drop)]
+#[derive(Clone, Copy)]
 pub struct Pair {
     pub end: Minute,
     pub power: Kilowatt,
 }
 
 // What one pass over the pairs finds.
-#[derive(Drop)]
+#[derive(Clone, Copy)]
 pub struct EndsFound {
     pub rise: bool,
     pub bound: u32,

@@ -23,7 +23,7 @@ use rules::{Record, Row, UnitHead};
 
 // What is asked of a slot from question 15 on: does it count beside the report, is its clash with the report closed,
 // does its record leave, does it stay, is the slot cleared.
-#[derive(Drop)]
+#[derive(Clone, Copy)]
 pub struct SlotAnswers {
     pub other: bool,
     pub closed: bool,
@@ -33,7 +33,7 @@ pub struct SlotAnswers {
 }
 
 // The same of all slots; `closed` is question 15.
-#[derive(Drop)]
+#[derive(Clone, Copy)]
 pub struct Survey {
     pub others: [bool; 8],
     pub closed: bool,
@@ -44,7 +44,7 @@ pub struct Survey {
 
 // The number of the first "no", or 0, and beside 8 the part that breaks cover; then the slots that are cleared, the slot that is
 // written (8: none), whether the state changes, and whether some record leaves.
-#[derive(Drop)]
+#[derive(Clone, Copy)]
 pub struct Decision {
     pub number: u8,
     pub part: u16,

@@ -22,20 +22,20 @@ use rules::{Level, Levels, PowerRange, Record};
 pub const LANE_COUNT: u8 = SLOT_COUNT + 1;
 
 // A level, and a later minute up to which it stays.
-#[derive(Drop)]
+#[derive(Clone, Copy)]
 pub struct LevelSpan {
     pub level: Level,
     pub until: Minute,
 }
 
-#[derive(Drop)]
+#[derive(Clone, Copy)]
 pub struct LevelsSpan {
     pub levels: Levels,
     pub until: Minute,
 }
 
 // What a sweep reads: the slots that count, and whether the reported record does.
-#[derive(Drop)]
+#[derive(Clone, Copy)]
 pub struct Swept {
     pub counted: [bool; 8],
     pub with_report: bool,
@@ -43,7 +43,7 @@ pub struct Swept {
 
 // A record as a sweep reads it: its type (0: it does not count), its period and how many pairs it has. Lane 0 is the
 // report's, lane i + 1 that of slot i.
-#[derive(Drop)]
+#[derive(Clone, Copy)]
 pub struct Lane {
     pub record_type: u8,
     pub period: Period,
@@ -51,14 +51,14 @@ pub struct Lane {
 }
 
 // A lane's level, and its place: the pairs before it have ended.
-#[derive(Drop)]
+#[derive(Clone, Copy)]
 pub struct LaneSpan {
     pub span: LevelSpan,
     pub place: u16,
 }
 
 // The lane that has a type's level, with its place, or none; so it is up to a minute.
-#[derive(Drop)]
+#[derive(Clone, Copy)]
 pub struct Choice {
     pub there: bool,
     pub lane: u8,
@@ -67,7 +67,7 @@ pub struct Choice {
     pub until: Minute,
 }
 
-#[derive(Drop)]
+#[derive(Clone, Copy)]
 pub struct Choices {
     pub forced: Choice,
     pub positive: Choice,
@@ -75,7 +75,7 @@ pub struct Choices {
 }
 
 // The lowest and the highest power of a type, where it has one.
-#[derive(Drop)]
+#[derive(Clone, Copy)]
 pub struct Extremes {
     pub there: bool,
     pub lowest: Kilowatt,
@@ -83,7 +83,7 @@ pub struct Extremes {
 }
 
 // What a level is asked whatever its minute: to fit beside the highest deratings, or to be within the limits.
-#[derive(Drop)]
+#[derive(Clone, Copy)]
 pub struct Aside {
     pub beside: bool,
     pub positive: Extremes,
@@ -91,7 +91,7 @@ pub struct Aside {
 }
 
 // The types that question 17 is about, among the slots that count.
-#[derive(Drop)]
+#[derive(Clone, Copy)]
 pub struct CountedTypes {
     pub forced: bool,
     pub positive: bool,
@@ -99,7 +99,7 @@ pub struct CountedTypes {
 }
 
 // Question 17, and warnings 2 and 4.
-#[derive(Drop)]
+#[derive(Clone, Copy)]
 pub struct SweepResult {
     pub fits: bool,
     pub above: bool,
@@ -107,14 +107,14 @@ pub struct SweepResult {
 }
 
 // What was found up to a minute.
-#[derive(Drop)]
+#[derive(Clone, Copy)]
 pub struct Stretch {
     pub found: SweepResult,
     pub until: Minute,
 }
 
 // Warnings 2 and 4.
-#[derive(Drop)]
+#[derive(Clone, Copy)]
 pub struct LevelWarnings {
     pub above: bool,
     pub below: bool,

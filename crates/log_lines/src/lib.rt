@@ -19,7 +19,7 @@ use report::{MOST_PARTS, MOST_TEXT, PART_SIZE, PARTS_START};
 use rules::Answer;
 
 // The reports accepted clean, accepted with warnings, and refused.
-#[derive(Drop)]
+#[derive(Clone, Copy)]
 pub struct Totals {
     pub clean: u64,
     pub warned: u64,
@@ -27,14 +27,14 @@ pub struct Totals {
 }
 
 // The lines written so far, and their totals.
-#[derive(Drop)]
+#[derive(Clone, Copy)]
 pub struct Progress {
     pub lines: u64,
     pub totals: Totals,
 }
 
 // The progress after a report, the length of its line, and whether it was accepted, and ends the run.
-#[derive(Drop)]
+#[derive(Clone, Copy)]
 pub struct Logged {
     pub progress: Progress,
     pub length: usize,

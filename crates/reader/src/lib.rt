@@ -7,13 +7,13 @@ ghost use Rattle.reader.specs.Reading.{cursor_past, taken, at_first, reader_at, 
 use quantities::Minute;
 
 // A place in a report.
-#[derive(Drop)]
+#[derive(Clone, Copy)]
 pub struct Cursor {
     pub place: usize,
 }
 
 // A number, and the cursor after it.
-#[derive(Drop)]
+#[derive(Clone, Copy)]
 pub struct Taken {
     pub value: u32,
     pub next: Cursor,
@@ -25,7 +25,7 @@ pub struct Reader<'a> {
     pub cursor: Cursor,
 }
 
-#[derive(Drop)]
+#[derive(Clone, Copy)]
 pub struct LineHead {
     pub unit: u32,
     pub part_count: u32,

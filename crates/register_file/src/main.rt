@@ -14,7 +14,7 @@ use log_lines::{Progress, Totals};
 
 // The progress, which bytes of the input were read and are not judged yet, and how the run goes on:
 // more has to come, it ends, or it has failed and that was said.
-#[derive(Drop)]
+#[derive(Clone, Copy)]
 struct State {
     progress: Progress,
     from: usize,

@@ -12,7 +12,7 @@ const START: usize = 4;
 const END: usize = 8;
 
 // A part's number, from 1, in a list of so many.
-#[derive(Drop)]
+#[derive(Clone, Copy)]
 struct Place {
     number: u16,
     count: u16,

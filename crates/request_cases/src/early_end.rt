@@ -15,7 +15,7 @@ const SAID: u32 = D + 850;
 const PLANNED_END: u32 = D + 960;
 
 // A report of the derating, and what a plain creation does not vary.
-#[derive(Drop)]
+#[derive(Clone, Copy)]
 struct Change {
     sent: Sent,
     operation: u8,

@@ -17,7 +17,7 @@ use records::{
 pub const D: u32 = 13760640;
 
 // A creation with direction 1 and ordinal 1. Levelled types have one part, or two where the power changes at a step.
-#[derive(Drop)]
+#[derive(Clone, Copy)]
 pub struct Sent {
     pub unit: u16,
     pub owner: u16,

@@ -10,7 +10,7 @@ use log_lines::{Logged, Progress, Totals};
 use streams::Input;
 
 // What was read before the first report: the roster's length, how many entries begin in it, and what came after it.
-#[derive(Drop)]
+#[derive(Clone, Copy)]
 struct Start {
     length: usize,
     entries: usize,

@@ -9,7 +9,7 @@ use quantities::Minute;
 
 // What was read of a line: its length, counted to 17, and its number, counted no further than past the last minute, if it is one;
 // and whether a write has failed.
-#[derive(Drop)]
+#[derive(Clone, Copy)]
 struct Line {
     length: usize,
     number: u32,

@@ -16,7 +16,7 @@ use report::{Cover, Head, Part};
 use rules::{PowerRange, UnitHead};
 
 // What is asked of each part: its times (question 4), its end on a quarter hour (7), its power (9), its derating (16).
-#[derive(Drop)]
+#[derive(Clone, Copy)]
 pub struct PartAnswers {
     pub times: bool,
     pub on_quarters: bool,
@@ -25,14 +25,14 @@ pub struct PartAnswers {
 }
 
 // The number of the first "no" of questions 4 to 9, or 0, and beside 8 the part that breaks cover.
-#[derive(Drop)]
+#[derive(Clone, Copy)]
 pub struct Refusal {
     pub number: u8,
     pub part: u16,
 }
 
 // The same, and question 16.
-#[derive(Drop)]
+#[derive(Clone, Copy)]
 pub struct Validated {
     pub number: u8,
     pub part: u16,
