@@ -1,0 +1,10 @@
+use mathlib.Core.Path.{sym}
+use Rattle.fields.proofs.Slices.{put-past}
+use Rattle.fields.proofs.Numbers.{put-pair}
+use Rattle.fields.proofs.put_u16.Goals as goal
+
+pub returns-then-at-s : goal.returns-then-at-s
+returns-then-at-s c = rw (← put-pair) (cc)
+
+pub returns-else-at-s : goal.returns-else-at-s
+returns-else-at-s c = sym (put-past _ _ _ c.if-at-s.false)
