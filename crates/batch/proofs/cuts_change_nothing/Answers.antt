@@ -1,0 +1,5 @@
+use Rattle.batch.proofs.Cuts.{cuts}
+use Rattle.batch.proofs.cuts_change_nothing.Goals as goal
+
+pub returns : goal.returns
+returns c = cuts more most register input cut

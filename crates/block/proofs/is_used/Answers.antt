@@ -1,0 +1,5 @@
+
+use Rattle.block.proofs.is_used.Goals as goal
+
+pub returns : goal.returns
+returns c = cc

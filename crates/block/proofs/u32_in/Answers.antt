@@ -1,0 +1,5 @@
+use Rattle.fields.proofs.Numbers.{four_bytes}
+use Rattle.block.proofs.u32_in.Goals as goal
+
+pub returns : goal.returns
+returns c = rw four_bytes c.u32_of.ensures

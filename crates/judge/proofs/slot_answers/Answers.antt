@@ -1,0 +1,6 @@
+use Rattle.judge.specs.Survey.{slot_answers}
+use Rattle.judge.proofs.slot_answers.Goals as goal
+
+pub returns : goal.returns
+unfolding slot_answers
+returns c = cc

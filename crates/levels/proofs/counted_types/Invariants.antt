@@ -1,0 +1,13 @@
+use Prim.Native.Nat.{◌-◌}
+use Rattle.rules.specs.Block.{slot_count}
+use Rattle.rules.specs.Codes.{positive_derating, negative_derating, forced_work}
+use Rattle.levels.proofs.Unforced.{OfType}
+use Rattle.levels.proofs.counted_types.Given as goal
+
+abbrev pub invariant-loop-i : goal.invariant-loop-i
+invariant-loop-i l =
+    OfType l.b l.counted forced_work l.unforced l.i × OfType l.b l.counted positive_derating l.no_positive l.i
+    × OfType l.b l.counted negative_derating l.no_negative l.i
+
+abbrev pub decreases-loop-i : goal.decreases-loop-i
+decreases-loop-i l = slot_count - l.i

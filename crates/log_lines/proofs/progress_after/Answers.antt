@@ -1,0 +1,6 @@
+
+use Rattle.log_lines.proofs.progress_after.Goals as goal
+
+pub returns : goal.returns
+returns c =
+    cc

@@ -1,0 +1,9 @@
+use native.Mathlib.Omega.{arith}
+use Rattle.log_lines.proofs.Texts.{fault-put}
+use Rattle.log_lines.proofs.put_fault.Goals as goal
+
+pub returns : goal.returns
+returns c =
+    let number = c in
+    let word = number.before.before.before.before in
+    (omega arith, fault-put _ _ _ _ _ _ _ _ word.put-text.ensures number.put-decimal.ensures.1 c.put_text.ensures)

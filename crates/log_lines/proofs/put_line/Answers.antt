@@ -1,0 +1,7 @@
+use native.Mathlib.Omega.{arith}
+use Rattle.log_lines.proofs.Texts.{line-then}
+use Rattle.log_lines.proofs.put_line.Goals as goal
+
+pub returns : goal.returns
+returns c =
+    (omega arith, line-then _ _ _ _ _ _ _ c.put_line_text-end.ensures.value c.put_text.ensures)

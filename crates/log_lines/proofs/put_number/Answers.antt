@@ -1,0 +1,9 @@
+use native.Mathlib.Omega.{arith}
+use Rattle.log_lines.proofs.Texts.{put_then}
+use Rattle.log_lines.proofs.put_number.Goals as goal
+
+pub returns : goal.returns
+returns c =
+    let decimal = c in
+    let both = put_then _ _ _ _ _ _ _ _ decimal.put-decimal.ensures.1 c.put_text.ensures in
+    (omega arith, both)

@@ -1,0 +1,11 @@
+use native.Mathlib.Omega.{arith}
+use Rattle.log_lines.proofs.Texts.{line-then}
+use Rattle.log_lines.proofs.put_remark_line.Goals as goal
+
+pub returns : goal.returns
+returns c =
+    let line = c in (
+      omega arith,
+      line-then _ _ _ _ _ _ _ (line-then _ _ _ _ _ _ _ line.put-line-text.ensures.1
+          c.put_remark-end.ensures.value) c.put_text.ensures,
+    )

@@ -1,0 +1,28 @@
+use Prim.Native.Nat.{◌-◌}
+use mathlib.Core.Path.{◌≡◌, refl}
+use native.Mathlib.Omega.{arith}
+use lib.ListN.{length}
+use lib.Seq.{take-length}
+use Rattle.log_lines.proofs.Shown.{shown-none, shown-more}
+use Rattle.log_lines.proofs.put_shown.Goals as goal
+
+pub loop-j-init : goal.loop-j-init
+loop-j-init c =
+    (omega arith, omega arith, shown-none _ c.args.bytes.now _, omega arith)
+
+pub loop-j-preserved : goal.loop-j-preserved
+loop-j-preserved c =
+    let here = c in
+    let bytes = here.before.before.before.args.bytes.now in (
+      omega arith,
+      omega arith,
+      shown-more _ _ _ bytes _ _ _ here.loop.j _ (omega arith) refl here.loop.invariant.2
+          c.put_shown_byte-end.ensures.value,
+      omega arith,
+    )
+
+pub returns : goal.returns
+returns c =
+    let bytes = c.args.bytes.now in
+    let all : c.loop-j.j ≡ length bytes = omega arith in
+    (omega arith, rw (all, take-length bytes) at c.loop-j.invariant.2)

@@ -1,0 +1,32 @@
+use mathlib.Core.Path.{refl}
+use native.Mathlib.Omega.{arith}
+use lib.ListN.{replicate}
+use Rattle.calendar.proofs.Dates.{printed-length}
+use Rattle.log_lines.proofs.Texts.{stamp-missing, stamp-there}
+use Rattle.log_lines.proofs.put_stamp.Goals as goal
+
+pub slice_bounds-put_text-end : goal.slice_bounds-put_text-end
+slice_bounds-put_text-end c =
+    printed-length (replicate 16 0) c.args.stamp c.print_date.ensures.text_after refl
+
+pub put_text-requires : goal.put_text-requires
+put_text-requires c =
+    let n = printed-length (replicate 16 0) c.args.stamp c.print_date.ensures.text_after refl in
+    (omega arith, omega (arith, n))
+
+pub returns-then-number-is_time : goal.returns-then-number-is_time
+returns-then-number-is_time c =
+    let d = c in
+    let n = printed-length (replicate 16 0) d.before.before.before.args.stamp d.print-date.ensures.1 refl in (
+      omega (arith, n),
+      stamp-there _ _ _ _ (rw c.is_time.ensures) _ _ _ c.if-number-is_time.true d.print-date.ensures.1
+          c.put_text.ensures,
+    )
+
+pub returns-else-number-is_time : goal.returns-else-number-is_time
+returns-else-number-is_time c =
+    (
+      omega arith,
+      stamp-missing _ _ _ _ (rw c.is_time.ensures) _ _ c.if-number-is_time.false
+          c.put_text-else-number-is_time.ensures,
+    )

@@ -1,0 +1,5 @@
+
+use Rattle.records.proofs.ask.Goals as goal
+
+pub returns : goal.returns
+returns c = cc

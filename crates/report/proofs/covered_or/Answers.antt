@@ -1,0 +1,10 @@
+use Rattle.fields.specs.Lists.{pick}
+use Rattle.report.proofs.covered_or.Goals as goal
+
+pub returns-then-test : goal.returns-then-test
+unfolding pick
+returns-then-test c = rw c.if-test.true
+
+pub returns-else-test : goal.returns-else-test
+unfolding pick
+returns-else-test c = rw c.if-test.false

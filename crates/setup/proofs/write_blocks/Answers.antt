@@ -1,0 +1,26 @@
+use Prim.Native.Nat.{◌-◌, ◌*◌}
+use mathlib.Core.Path.{◌≡◌, ◌∙◌}
+use native.Mathlib.Omega.{arith}
+use Rattle.rules.specs.Block.{block_size}
+use Rattle.setup.proofs.Laws.{blocks-none, block_room, block-lent, blocks-all}
+use Rattle.setup.proofs.write_blocks.Goals as goal
+
+pub loop-i-init : goal.loop-i-init
+loop-i-init c = (omega arith, omega arith, blocks-none _ _)
+
+pub write_fresh-requires : goal.write_fresh-requires
+write_fresh-requires c =
+    block_room c.loop-i.register (block_size * c.loop-i.i)
+    (omega arith)
+
+pub loop-i-preserved : goal.loop-i-preserved
+loop-i-preserved c = let l =
+    block-lent _ _ _ _ c.before.before.before.before.before.Slice-at.ensures
+    c.entry_of-e.ensures
+    c.loop-i.invariant.1
+    c.loop-i.invariant.2 (omega arith)
+    c.write_fresh.auto.0 c.write_fresh.ensures in (omega arith, l.0, l.1)
+
+pub returns : goal.returns
+returns c = let e : c.loop-i.i ≡ c.args.n =
+    omega arith in rw e at c.loop-i.invariant.2 ∙ blocks-all _ _ _ (omega arith)
