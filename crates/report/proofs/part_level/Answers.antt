@@ -6,4 +6,4 @@ returns-then-bits-lt2147483648 c = level-read _ _ c.first16-part.ensures c.minut
     c.u32_at-bits.ensures c.if-bits-lt2147483648.true
 
 pub returns : goal.returns
-returns c = level-of-part _ _ c.part_by_fields-part.ensures c.type_size.ensures
+returns c = level-of-part _ _ c.part_by_fields-part.ensures c.size_of-power.ensures

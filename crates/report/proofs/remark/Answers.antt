@@ -6,8 +6,8 @@ use Rattle.report.proofs.remark.Goals as goal
 
 pub returns-then-place : goal.returns-then-place
 returns-then-place c =
-    let args = c.args in
-    the-standing args.report args.standing c.remark_place-place.ensures c.if-place.true
+    let there = the-standing c.args.report c.args.standing c.remark_place-place.ensures c.if-place.true in
+    record { place = there.0; bytes = there.1.0; number_after = there.1.1 }
 
 pub overflow_add-end : goal.overflow_add-end
 overflow_add-end c = omega (arith, in-report _ _ c.remark_place-place.ensures c.if-place.false)
@@ -21,7 +21,7 @@ returns c =
     let text = the-text args.report args.standing c.remark_place-place.ensures
     c.if-place.false in
     record {
-      ref_ptr_value = text.0;
-      result_value = part-lent _ _ _ ∙ text.1.0;
+      place = text.0;
+      bytes = part-lent _ _ _ ∙ text.1.0;
       number_after = text.1.1;
     }
