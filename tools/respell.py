@@ -9,7 +9,7 @@ import os
 import re
 import subprocess
 
-TOKEN = re.compile(r"[A-Za-z_][A-Za-z0-9_'-]*[A-Za-z0-9_']|[A-Za-z_]")
+TOKEN = re.compile(r"(?<![A-Za-z0-9_])(?:[A-Za-z_][A-Za-z0-9_'-]*[A-Za-z0-9_']|[A-Za-z_])")
 QUOTED = re.compile(r'(b?"(?:[^"\\]|\\.)*")')
 # a definition whose plain snake case is the name of a field or of another lemma
 OWN = {

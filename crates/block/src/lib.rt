@@ -147,7 +147,7 @@ pub fn slot_at<'a>(b: &'a [u8], i: u8) -> &'a [u8]
 pub fn is_used(z: &[u8]) -> bool
     ensures { result ≡ used z.now }
 {
-    u16_at(z, 0) == 0x475_a
+    u16_at(z, 0) == 0x475A
 }
 
 pub fn record_in(z: &[u8]) -> Record
@@ -411,7 +411,7 @@ fn head_whole(unit: u16, b: &[u8]) -> bool
     ensures { result ≡ head_whole unit b.now }
 {
     let h = unit_head(b);
-    (u16_at(b, 0) == 0x4_e55)
+    (u16_at(b, 0) == 0x4E55)
         & (h.unit == unit)
         & zeros_at(b, 9, 3)
         & zeros_at(b, 36, 28)
@@ -469,7 +469,7 @@ pub fn entry_good(s: &[u8]) -> bool
     ensures { result ≡ entry_good s.now }
 {
     let e = entry_of(s);
-    (u16_at(s, 0) == 0x474_a)
+    (u16_at(s, 0) == 0x474A)
         & records::owner_in_range(e.owner)
         & records::kind_in_range(e.kind)
         & records::row_in_range(e.kind, e.row)
@@ -513,7 +513,7 @@ pub fn clear(b: &mut [u8])
 fn put_unit(b: &mut [u8], unit: u16, owner: u16, kind: u8)
     ensures { b.new ≡ put_unit b.old unit owner kind }
 {
-    put_u16(b, 0, 0x4_e55);
+    put_u16(b, 0, 0x4E55);
     put_u16(b, 2, unit);
     put_u16(b, 4, owner);
     put_u8(b, 6, kind);
@@ -555,7 +555,7 @@ pub fn put_unit_head(b: &mut [u8], h: UnitHead)
 fn put_codes(z: &mut [u8], r: Record)
     ensures { z.new ≡ put z.old 0 (codes_bytes r) }
 {
-    put_u16(z, 0, 0x475_a);
+    put_u16(z, 0, 0x475A);
     put_u8(z, 2, r.record_type);
     put_u8(z, 3, r.direction);
     put_u8(z, 4, r.qualification);

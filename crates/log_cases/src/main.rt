@@ -225,7 +225,7 @@ fn columns(register: &mut [u8], report: &mut [u8], text: &mut [u8])
         report,
         text,
         52,
-        0x_f8_bd,
+        0xF8BD,
         b"a part that starts a minute late",
     );
 }

@@ -21,11 +21,11 @@ module _ (here there : List ℕ) (at end b : ℕ) where
   backslash e p = rw (eq-eqb b 92 e) p
 
   module _ (other : b ≡ 92 → ⊥) where
-    pub as-it-is : (leb 0x20 b && leb b 0x7_e) ≡ true → Put here at (b ∷ []) there end → Put here at (shown_byte b) there end
+    pub as-it-is : (leb 0x20 b && leb b 0x7E) ≡ true → Put here at (b ∷ []) there end → Put here at (shown_byte b) there end
     unfolding shown_byte pick
     as-it-is e p = rw (ne_eqb b 92 other, e) p
 
-    pub in-hex : (leb 0x20 b && leb b 0x7_e) ≡ false → (mid : List ℕ) (between h l : ℕ) → Put here at (ascii "\\x") mid between
+    pub in-hex : (leb 0x20 b && leb b 0x7E) ≡ false → (mid : List ℕ) (between h l : ℕ) → Put here at (ascii "\\x") mid between
         → Put mid between (h ∷ l ∷ []) there end → h ≡ hex_digit (b / 16) → l ≡ hex_digit (b % 16)
         → Put here at (shown_byte b) there end
     unfolding shown_byte pick

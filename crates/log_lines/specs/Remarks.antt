@@ -14,7 +14,7 @@ hex_digit n = pick (ltb n 10) (48 + n) (87 + n)
 unfoldable pub shown_byte : ℕ → List ℕ
 shown_byte b =
     pick (eqb b 92) (ascii "\\\\")
-    (pick (leb 0x20 b && leb b 0x7_e) (b ∷ []) (ascii "\\x" ++ (hex_digit (b / 16) ∷ hex_digit (b % 16) ∷ [])))
+    (pick (leb 0x20 b && leb b 0x7E) (b ∷ []) (ascii "\\x" ++ (hex_digit (b / 16) ∷ hex_digit (b % 16) ∷ [])))
 
 unfoldable pub shown : List ℕ → List ℕ
 shown [] = []

@@ -153,7 +153,7 @@ fn put_shown_byte(text: &mut [u8], at: usize, b: u8) -> usize
     if b == b'\\' {
         return put_text(text, at, b"\\\\");
     }
-    if (0x20 <= b) & (b <= 0x7_e) {
+    if (0x20 <= b) & (b <= 0x7E) {
         return put_text(text, at, &[b]);
     }
     let digits_at = put_text(text, at, b"\\x");
@@ -332,7 +332,7 @@ pub fn log_remark(register: &mut [u8], report: &[u8], so_far: Progress, text: &m
 pub fn entry_begins(input: &[u8]) -> bool
     ensures { result ≡ entry_begins input.now }
 {
-    fields::u16_at(input, 0) == 0x474_a
+    fields::u16_at(input, 0) == 0x474A
 }
 
 // A report's length by its own k and t.

@@ -44,7 +44,7 @@ fn offset_of(number: u16) -> usize
 
 fn put_part(report: &mut [u8], number: u16) {
     let at = offset_of(number);
-    fields::put_u32(report, at, 0x4_b50);
+    fields::put_u32(report, at, 0x4B50);
     fields::put_u32(report, at + START, end_of(number) - 15);
     fields::put_u32(report, at + END, end_of(number));
     fields::put_u32(report, at + 12, 20000);

@@ -136,7 +136,7 @@ fn part_count(s: Sent) -> u16
 fn put_part(report: &mut [u8], at: usize, start: u32, end: u32, power: u32)
     requires { at ≤ 1850 }
 {
-    fields::put_u16(report, at, 0x4_b50);
+    fields::put_u16(report, at, 0x4B50);
     fields::put_u16(report, at + 2, 0);
     fields::put_u32(report, at + 4, start);
     fields::put_u32(report, at + 8, end);
@@ -210,7 +210,7 @@ fn put_entry_start(roster: &mut [u8], at: usize, owner: u16, kind: u8, state: u8
     requires { at ≤ 1850 }
     ensures { roster.new ≡ put roster.old at (entry_start owner kind state) }
 {
-    fields::put_u16(roster, at, 0x474_a);
+    fields::put_u16(roster, at, 0x474A);
     fields::put_u16(roster, at + 2, owner);
     fields::put_u8(roster, at + 4, kind);
     fields::put_u8(roster, at + 5, state);

@@ -273,9 +273,9 @@ powers =
     gives 0 unit_w (forced 0)
     ∷ gives 0 unit_w (forced 99999999)
     ∷ gives 9 unit_w (forced 100000000)
-    ∷ gives 9 unit_w (forced 0x7_fffffff)
+    ∷ gives 9 unit_w (forced 0x7FFFFFFF)
     -- -1, and the lowest number
-    ∷ gives 9 unit_w (forced 0x_ffffffff)
+    ∷ gives 9 unit_w (forced 0xFFFFFFFF)
     ∷ gives 9 unit_w (forced 0x80000000)
     ∷ gives 9 unit_w (stepped but word 76 100000000)
     ∷ []

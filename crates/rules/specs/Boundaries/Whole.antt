@@ -189,7 +189,7 @@ records =
     -- 9
     ∷ holds_on W1 (derating but word 92 99999999)
     ∷ fails W1 (derating but word 92 100000000)
-    ∷ fails W1 (derating but word 92 0x_ffffffff)
+    ∷ fails W1 (derating but word 92 0xFFFFFFFF)
     -- "type 5 begun, start < end"
     ∷ fails W1 (slot_of (off_grid_at 5 5 30) but byte 5 1)
     ∷ holds_on W1 (stop_planned but word 32 (D + 16))
@@ -244,7 +244,7 @@ slots =
     ∷ broken (full but byte 808 1)
     ∷ broken (full but byte 887 1)
     ∷ broken (full but half 6 0)
-    ∷ broken (zeros 888 but byte 0 0x5_a)
+    ∷ broken (zeros 888 but byte 0 0x5A)
     ∷ broken (zeros 888 but byte 1 0x47)
     ∷ broken (zeros 888 but byte 2 1)
     ∷ broken (zeros 888 but byte 887 1)
