@@ -40,8 +40,6 @@ judge_block-requires c =
 
 pub returns : goal.returns
 returns c =
-    let if2 = c in
-    let if1 = if2.before.before in
     let u = ap (λ (h : Head). h.unit) c.head_of-unit.ensures in
     let k = inside _ _ u c.is_addressed.ensures c.if-not-is_addressed.false in
     judged-there _ _ if1.before.register-whole.ensures if1.if1.false if2.before.is_whole.ensures if2.if2.false

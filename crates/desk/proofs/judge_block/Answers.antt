@@ -8,8 +8,6 @@ returns-then-decision-ne0 c = refuses _ _ c.decide-decision.ensures c.if-decisio
 
 pub returns : goal.returns
 returns c =
-    let at-if1 = c in
-    let at-decide = at-if1.before.before in
     let at_pre = at-decide.before.before.before.before in
     accepts _ _ at-decide.decide.ensures (ok-size _ _ at_pre.requires.0) (block-free _ _ at_pre.requires.0) at_pre.requires.1
     at-if1.if1.false at-apply.apply.ensures c.head_of.ensures c.warnings_on-warnings.ensures

@@ -23,7 +23,6 @@ at t = and 1 put-decimal-kinds.ps (is 1 put-decimal-kinds.ps μ-put-decimal t) p
 abbrev below : ℕ → In 1 put-decimal-kinds.ps
 below t = and 1 put-decimal-kinds.ps (falls 1 put-decimal-kinds.ps ◌<◌ μ-put-decimal t) put-decimal.Pre
 
-pub +put-decimal-spec : {M : Type 1} → statement M
 +put-decimal-spec = close μ-put-decimal λ t. put-decimal-lts.spec (
   digit-reads.Asked,
   digit-reads.Learnt,

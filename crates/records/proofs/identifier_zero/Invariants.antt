@@ -5,7 +5,7 @@ use Rattle.fields.proofs.Tests.{Tested}
 use Rattle.records.proofs.identifier_zero.Given as goal
 
 abbrev pub invariant-loop-j : goal.invariant-loop-j
-invariant-loop-j l = Tested (λ l.j. eqb (get_or l.r.identifier l.j 0) 0) (λ l.j. l.j) 16 l.ok l.j
+invariant-loop-j l = Tested (λ j. eqb (get_or l.r.identifier j 0) 0) (λ j. j) 16 l.ok l.j
 
 abbrev pub decreases-loop-j : goal.decreases-loop-j
 decreases-loop-j l = 16 - l.j

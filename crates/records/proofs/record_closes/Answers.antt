@@ -3,8 +3,6 @@ use Rattle.rules.specs.Records.{closes}
 use mathlib.Core.Path.{refl}
 use Rattle.records.proofs.record_closes.Goals as goal
 
-pub record-closes-spec : {M : Type 1} → statement M
-
 pub returns : goal.returns
 unfolding closes every and_each
 returns c = refl

@@ -1,8 +1,6 @@
 use Rattle.rules.specs.Whole.{records_apart}
 use Rattle.records.proofs.records_apart.Goals as goal
 
-pub records-apart-spec : {M : Type 1} → statement M
-
 pub returns : goal.returns
 unfolding records_apart
 returns c = cc

@@ -10,7 +10,7 @@ loop-i-preserved c = over-more c.loop-i.invariant
     c.loop-i-test.true
     c.part_at-p.ensures c.part_is_times-times.ensures
     c.part_is_on_quarter-on_quarters.ensures c.is_signed_power-powers.ensures
-    c.before.type_size.ensures c.larger-largest.ensures
+    c.before.size_of.ensures c.larger-largest.ensures
 
 pub returns : goal.returns
 returns c = over-all c.loop-i.invariant c.loop-i-test.false c.derating_fits.ensures
