@@ -1,12 +1,12 @@
 -- The answer on each way through the questions. Assumes nothing.
 use Prim.Native.Nat.{ℕ, ◌+◌, ◌*◌, ◌-◌, ◌/◌, ◌≤◌}
 use mathlib.Core.Path.{◌≡◌, refl, ap, sym, ◌∙◌}
-use mathlib.Core.Bool.{Bool, true, false, not, ◌&&◌}
+use mathlib.Core.Bool.{Bool, true, false, ◌&&◌}
 use mathlib.Core.List.{List, ◌++◌}
 use native.Mathlib.Omega.{arith}
 use lib.Dec.{leb, eqb}
 use lib.ListN.{length, take, drop}
-use borrow.Author.Tests.{eqb-true, eq-eqb, ne_eqb, not-true, not-false}
+use borrow.Author.Tests.{eqb-true, eq-eqb, ne_eqb}
 use Rattle.fields.specs.Lists.{pick, and_each, every, part, series}
 use Rattle.fields.proofs.Bools.{passed_over, every_true, range-true}
 use Rattle.fields.proofs.Slices.{part-lent, lent_back}
@@ -91,38 +91,38 @@ module _ (b s : List ℕ) {d : Decision} (decided : d ≡ decision_of b s) where
 
 -- questions 1 to 3, each after the one before
 module _ (reg s : List ℕ) {x : Bool} (one : x ≡ register_whole reg) where
-  pub no-1 : {a : Answer} → not x ≡ true → a ≡ refusal 1 → Is (answer_to reg s) a reg
+  pub no-1 : {a : Answer} → x ≡ false → a ≡ refusal 1 → Is (answer_to reg s) a reg
   unfolding answer_to pick
   no-1 q e =
-      let fails : register_whole reg ≡ false = sym one ∙ not-true x q in
+      let fails : register_whole reg ≡ false = sym one ∙ q in
       (e ∙ rw fails, rw fails)
 
-  module _ (q1 : not x ≡ false) {y : Bool} (two : y ≡ whole s) where
+  module _ (q1 : x ≡ true) {y : Bool} (two : y ≡ whole s) where
     first : register_whole reg ≡ true
-    first = sym one ∙ not-false x q1
+    first = sym one ∙ q1
 
-    pub no-2 : {a : Answer} → not y ≡ true → a ≡ refusal 2 → Is (answer_to reg s) a reg
+    pub no-2 : {a : Answer} → y ≡ false → a ≡ refusal 2 → Is (answer_to reg s) a reg
     unfolding answer_to pick
     no-2 q e =
-        let fails : whole s ≡ false = sym two ∙ not-true y q in
+        let fails : whole s ≡ false = sym two ∙ q in
         (e ∙ rw (first, fails), rw (first, fails))
 
-    module _ (q2 : not y ≡ false) {z : Bool} (three : z ≡ question3 reg s) where
+    module _ (q2 : y ≡ true) {z : Bool} (three : z ≡ question3 reg s) where
       second : whole s ≡ true
-      second = sym two ∙ not-false y q2
+      second = sym two ∙ q2
 
-      pub no-3 : {a : Answer} → not z ≡ true → a ≡ refusal 3 → Is (answer_to reg s) a reg
+      pub no-3 : {a : Answer} → z ≡ false → a ≡ refusal 3 → Is (answer_to reg s) a reg
       unfolding answer_to pick
       no-3 q e =
-          let fails : question3 reg s ≡ false = sym three ∙ not-true z q in
+          let fails : question3 reg s ≡ false = sym three ∙ q in
           (e ∙ rw (first, second, fails), rw (first, second, fails))
 
       -- the unit's block is lent, judged and handed back
-      pub judged-there : {a : Answer} {left : List ℕ} → not z ≡ false → a ≡ (judge (block_at reg (head_of s).unit) s).answer
+      pub judged-there : {a : Answer} {left : List ℕ} → z ≡ true → a ≡ (judge (block_at reg (head_of s).unit) s).answer
           → left ≡ with_block reg (head_of s).unit (judge (block_at reg (head_of s).unit) s).after → Is (answer_to reg s) a left
       unfolding answer_to pick
       judged-there q e f =
-          let passes : question3 reg s ≡ true = sym three ∙ not-false z q in
+          let passes : question3 reg s ≡ true = sym three ∙ q in
           (e ∙ rw (first, second, passes), f ∙ rw (first, second, passes))
 
 -- question 3, where the unit is 1 to n and where it is not
@@ -150,10 +150,10 @@ pub record Inside (reg : List ℕ) (unit : ℕ) : Type 0 where
   pub first : 1 ≤ unit
   pub last : block_size * unit ≤ length reg
 
-pub inside : (reg s : List ℕ) {u : ℕ} {z : Bool} → u ≡ (head_of s).unit → z ≡ question3 reg s → not z ≡ false → Inside reg u
+pub inside : (reg s : List ℕ) {u : ℕ} {z : Bool} → u ≡ (head_of s).unit → z ≡ question3 reg s → z ≡ true → Inside reg u
 unfolding question3
 inside reg s {u} {z} e p q =
-    let f = (every_true _ (sym p ∙ not-false z q)).0 in
+    let f = (every_true _ (sym p ∙ q)).0 in
     let r = range-true 1 (length reg / block_size) (head_of s).unit f in
     let low = r.0 in
     let high = r.1 in

@@ -1,13 +1,13 @@
 -- The free slots of a block of a whole register are zeros. Assumes nothing.
 use Prim.Native.Nat.{ℕ, ◌*◌, ◌-◌, ◌/◌, ◌<◌}
 use mathlib.Core.Path.{◌≡◌, sym, ◌∙◌, subst}
-use mathlib.Core.Bool.{Bool, true, false, not}
+use mathlib.Core.Bool.{Bool, true, false}
 use mathlib.Core.List.{List}
 use native.Mathlib.Omega.{arith}
 use lib.Dec.{eqb}
 use lib.ListN.{length, get_or-replicate}
 use lib.Seq.{ext_get_or}
-use borrow.Author.Tests.{eqb-true, not-false}
+use borrow.Author.Tests.{eqb-true}
 use Rattle.fields.specs.Fields.{u8_at}
 use Rattle.fields.specs.Lists.{pick}
 use Rattle.fields.proofs.Bools.{every_true}
@@ -57,8 +57,8 @@ named : (unit : ℕ) (b : List ℕ) → block_whole unit b ≡ true → block_wh
 named unit b e = rw (unit-same unit b e) e
 
 -- the unit's block as it is lent
-pub lent-whole : (reg : List ℕ) {unit : ℕ} {x : Bool} → x ≡ register_whole reg → not x ≡ false → Inside reg unit
+pub lent-whole : (reg : List ℕ) {unit : ℕ} {x : Bool} → x ≡ register_whole reg → x ≡ true → Inside reg unit
     → block_whole (unit_head (lent reg unit)).unit (lent reg unit) ≡ true
 lent-whole reg {unit} {x} e n k =
     subst (λ (b : List ℕ). block_whole (unit_head b).unit b ≡ true) (sym (part-lent reg (block_size * (unit - 1)) block_size))
-    (named unit (block_at reg unit) (block-whole reg unit (sym e ∙ not-false x n) k))
+    (named unit (block_at reg unit) (block-whole reg unit (sym e ∙ n) k))

@@ -12,4 +12,4 @@ overflow_add-result c = omega (arith, at_most_one c.remark_place-p.result.standi
 pub returns : goal.returns
 returns c =
     rw (one_or_zero c.remark_place-p.result.standing, c.remark_place-p.ensures)
-    (refl, (refl, refl))
+    (record { value = refl; place_after = refl; length_after = refl })

@@ -15,7 +15,7 @@ overflow_sub-unit c = omega (
 
 pub returns-then-unit-register : goal.returns-then-unit-register
 returns-then-unit-register c = owner-asked _ _ c.head_of-h.ensures
-    c.if-unit-register.true c.before.before.before.Slice-at.ensures
+    c.if-unit-register.true c.slice_at-b.ensures
     c.unit_head.ensures
 
 pub returns-else-unit-register : goal.returns-else-unit-register

@@ -4,9 +4,8 @@ use Rattle.log_lines.proofs.log_report.Goals as goal
 
 pub returns : goal.returns
 returns c =
-    let answer = c in
-    let args = answer.before.before.before.before.before.args in
-    let said = answer.answer-report.ensures in
+    let args = c.args in
+    let said = c.answer_report-a.ensures in
     let step = logged log_line args.so_far args.report.now _ _ said.0 c.progress_after-progress.ensures
     c.put_line-length.ensures.value c.logged_at.ensures in
     record {

@@ -4,6 +4,4 @@ use Rattle.log_lines.proofs.put_fault.Goals as goal
 
 pub returns : goal.returns
 returns c =
-    let number = c in
-    let word = number.before.before.before.before in
-    (omega arith, fault-put _ _ _ _ _ _ _ _ word.put-text.ensures number.put-decimal.ensures.1 c.put_text.ensures)
+    (omega arith, fault-put _ _ _ _ _ _ _ _ c.put_text-number_at.ensures c.put_decimal-end.ensures.value c.put_text.ensures)

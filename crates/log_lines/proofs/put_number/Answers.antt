@@ -4,6 +4,5 @@ use Rattle.log_lines.proofs.put_number.Goals as goal
 
 pub returns : goal.returns
 returns c =
-    let decimal = c in
-    let both = put_then _ _ _ _ _ _ _ _ decimal.put-decimal.ensures.1 c.put_text.ensures in
+    let both = put_then _ _ _ _ _ _ _ _ c.put_decimal-end.ensures.value c.put_text.ensures in
     (omega arith, both)

@@ -9,12 +9,12 @@ use Rattle.log_lines.proofs.put_remark.Goals as goal
 pub put_shown-requires : goal.put_shown-requires
 put_shown-requires c =
     let report = c.args.report.now in
-    (omega arith, omega (arith, ap length c.remark-remark.ensures.result_value.0, remark-short report standing_remark (omega arith)))
+    (omega arith, omega (arith, ap length c.remark-remark.ensures.bytes.0, remark-short report standing_remark (omega arith)))
 
 pub returns : goal.returns
 returns c =
-    let mark = c in (
+    (
       omega arith,
-      put_then _ _ _ _ _ _ _ _ mark.put-text.ensures
-          (put_same _ _ _ _ (ap shown c.remark-remark.ensures.result_value.0) c.put_shown.ensures.value),
+      put_then _ _ _ _ _ _ _ _ c.put_text-remark_at.ensures
+          (put_same _ _ _ _ (ap shown c.remark-remark.ensures.bytes.0) c.put_shown.ensures.value),
     )

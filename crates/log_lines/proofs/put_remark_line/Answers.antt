@@ -4,8 +4,8 @@ use Rattle.log_lines.proofs.put_remark_line.Goals as goal
 
 pub returns : goal.returns
 returns c =
-    let line = c in (
+    (
       omega arith,
-      line-then _ _ _ _ _ _ _ (line-then _ _ _ _ _ _ _ line.put-line-text.ensures.1
+      line-then _ _ _ _ _ _ _ (line-then _ _ _ _ _ _ _ c.put_line_text-remark_at.ensures.value
           c.put_remark-end.ensures.value) c.put_text.ensures,
     )

@@ -12,11 +12,10 @@ loop-j-init c =
 
 pub loop-j-preserved : goal.loop-j-preserved
 loop-j-preserved c =
-    let here = c in
-    let bytes = here.before.before.before.args.bytes.now in (
+    let bytes = c.args.bytes.now in (
       omega arith,
       omega arith,
-      shown-more _ _ _ bytes _ _ _ here.loop.j _ (omega arith) refl here.loop.invariant.2
+      shown-more _ _ _ bytes _ _ _ c.loop-j.j _ (omega arith) refl c.loop-j.invariant.2
           c.put_shown_byte-end.ensures.value,
       omega arith,
     )

@@ -15,9 +15,8 @@ returns-then-b c =
 
 pub returns : goal.returns
 returns c =
-    let mid = c in
-    let if = mid.before.before.before in (
+    (
       omega arith,
-      in-hex _ _ _ _ _ if.before.if1.false if.if2.false _ _ _ _ mid.put-text3.ensures
+      in-hex _ _ _ _ _ c.if-b-eq92.false c.if-b.false _ _ _ _ c.put_text-digits_at.ensures
           c.put_text-2.ensures c.hex_digit.ensures c.hex_digit-2.ensures,
     )

@@ -16,10 +16,9 @@ put_text-requires c =
 
 pub returns-then-number-is_time : goal.returns-then-number-is_time
 returns-then-number-is_time c =
-    let d = c in
-    let n = printed-length (replicate 16 0) d.before.before.before.args.stamp d.print-date.ensures.1 refl in (
+    let n = printed-length (replicate 16 0) c.args.stamp c.print_date.ensures.text_after refl in (
       omega (arith, n),
-      stamp-there _ _ _ _ (rw c.is_time.ensures) _ _ _ c.if-number-is_time.true d.print-date.ensures.1
+      stamp-there _ _ _ _ (rw c.is_time.ensures) _ _ _ c.if-number-is_time.true c.print_date.ensures.text_after
           c.put_text.ensures,
     )
 

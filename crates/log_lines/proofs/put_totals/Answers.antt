@@ -4,11 +4,8 @@ use Rattle.log_lines.proofs.put_totals.Goals as goal
 
 pub returns : goal.returns
 returns c =
-    let refused = c in
-    let warned = refused.before.before.before.before in
-    let clean = warned.before.before.before.before in
-    let word = clean.before.before.before.before in (
+    (
       omega arith,
-      totals-put _ _ _ _ _ _ _ _ _ _ _ _ word.put-text.ensures clean.put-number.ensures.1
-          warned.put-number2.ensures.1 refused.put-decimal.ensures.1 c.put_text.ensures,
+      totals-put _ _ _ _ _ _ _ _ _ _ _ _ c.put_text-clean_at.ensures c.put_number-warned_at.ensures.value
+          c.put_number-refused_at.ensures.value c.put_decimal-end.ensures.value c.put_text.ensures,
     )
