@@ -1,4 +1,1 @@
-pub mod Held
-pub mod Lent
 pub mod Places
-pub mod Reading
