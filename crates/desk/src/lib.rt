@@ -91,8 +91,7 @@ pub fn answer_report(register: &mut [u8], report: &[u8]) -> Answer
 }
 
 // The C interface: 0, 20 or 21.
-#[unsafe(no_mangle)]
-pub extern "C" fn desk_set_up(roster: &[u8], register: &mut [u8]) -> u32
+pub fn desk_set_up(roster: &[u8], register: &mut [u8]) -> u32
     ensures value { result ≡ (set_up roster.now register.old).number }
     ensures register_after { register.new ≡ (set_up roster.now register.old).after }
 {
@@ -100,8 +99,7 @@ pub extern "C" fn desk_set_up(roster: &[u8], register: &mut [u8]) -> u32
 }
 
 // The C interface: the number, 256 times the warnings and 65,536 times the part.
-#[unsafe(no_mangle)]
-pub extern "C" fn desk_answer(register: &mut [u8], report: &[u8]) -> u32
+pub fn desk_answer(register: &mut [u8], report: &[u8]) -> u32
     ensures value { result ≡ packed (answer_to register.old report.now).answer }
     ensures register_after { register.new ≡ (answer_to register.old report.now).after }
 {
@@ -110,8 +108,7 @@ pub extern "C" fn desk_answer(register: &mut [u8], report: &[u8]) -> u32
 }
 
 // The C interface: the remark's number, and 256 where it is the standing text; where it begins, and its length.
-#[unsafe(no_mangle)]
-pub extern "C" fn desk_remark(
+pub fn desk_remark(
     report: &[u8],
     standing: &[u8],
     place: &mut u64,
@@ -128,8 +125,7 @@ pub extern "C" fn desk_remark(
 }
 
 // The C interface: the number, and 2^32 times the minute.
-#[unsafe(no_mangle)]
-pub extern "C" fn desk_read_date(text: &[u8]) -> u64
+pub fn desk_read_date(text: &[u8]) -> u64
     ensures { result ≡ packed_date (date_read text.now) }
 {
     let read = calendar::read_date(text);
@@ -137,8 +133,7 @@ pub extern "C" fn desk_read_date(text: &[u8]) -> u64
 }
 
 // The C interface: 0, 22 or 43.
-#[unsafe(no_mangle)]
-pub extern "C" fn desk_print_date(minute: u32, text: &mut [u8]) -> u32
+pub fn desk_print_date(minute: u32, text: &mut [u8]) -> u32
     ensures value { result ≡ put_answer (record { 0 = minute }) text.old }
     ensures text_after { text.new ≡ date_put (record { 0 = minute }) text.old }
 {

@@ -1,0 +1,58 @@
+// The C interface: each function of the desk that C calls, under its own name and with its own clauses. include/desk.h declares them.
+#![tactic(auto)]
+
+ghost use Rattle.std.specs.Prelude.{◌≡◌};
+ghost use Rattle.report.specs.Remark.{remark_in};
+ghost use Rattle.rules.specs.Desk.{set_up, answer_to};
+ghost use Rattle.calendar.specs.Reading.{date_read, put_answer, date_put};
+ghost use Rattle.desk.specs.Packed.{packed, packed_remark, packed_date};
+
+// 0, 20 or 21.
+#[unsafe(no_mangle)]
+pub extern "C" fn desk_set_up(roster: &[u8], register: &mut [u8]) -> u32
+    ensures value { result ≡ (set_up roster.now register.old).number }
+    ensures register_after { register.new ≡ (set_up roster.now register.old).after }
+{
+    desk::desk_set_up(roster, register)
+}
+
+// The number, 256 times the warnings and 65,536 times the part.
+#[unsafe(no_mangle)]
+pub extern "C" fn desk_answer(register: &mut [u8], report: &[u8]) -> u32
+    ensures value { result ≡ packed (answer_to register.old report.now).answer }
+    ensures register_after { register.new ≡ (answer_to register.old report.now).after }
+{
+    desk::desk_answer(register, report)
+}
+
+// The remark's number, and 256 where it is the standing text; where it begins, and its length.
+#[unsafe(no_mangle)]
+pub extern "C" fn desk_remark(
+    report: &[u8],
+    standing: &[u8],
+    place: &mut u64,
+    length: &mut u64,
+) -> u32
+    ensures value { result ≡ packed_remark (remark_in report.now standing.now) }
+    ensures place_after { place.new ≡ (remark_in report.now standing.now).start }
+    ensures length_after { length.new ≡ (remark_in report.now standing.now).length }
+{
+    desk::desk_remark(report, standing, place, length)
+}
+
+// The number, and 2^32 times the minute.
+#[unsafe(no_mangle)]
+pub extern "C" fn desk_read_date(text: &[u8]) -> u64
+    ensures { result ≡ packed_date (date_read text.now) }
+{
+    desk::desk_read_date(text)
+}
+
+// 0, 22 or 43.
+#[unsafe(no_mangle)]
+pub extern "C" fn desk_print_date(minute: u32, text: &mut [u8]) -> u32
+    ensures value { result ≡ put_answer (record { 0 = minute }) text.old }
+    ensures text_after { text.new ≡ date_put (record { 0 = minute }) text.old }
+{
+    desk::desk_print_date(minute, text)
+}
