@@ -1,6 +1,6 @@
 /*
  * The desk: judges outage reports on a register of generating units. The functions of target/staticlib/libdesk.a, which
- * `rt staticlib desk` builds; C99 or later, C++11 or later, x86-64 Linux. docs/EMBEDDING.md says how to link it and what is
+ * `tools/build desk_c` builds; C99 or later, C++11 or later, x86-64 Linux. docs/EMBEDDING.md says how to link it and what is
  * promised, docs/FORMATS.md has the bytes, examples/c/desk_example.c uses every function.
  *
  * What holds for every function:

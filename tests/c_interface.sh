@@ -17,7 +17,7 @@ told() {
 }
 
 need_library() {
-  [ -e "$library" ] || [ -n "${DESK_LIB_DIR-}" ] || rt staticlib desk
+  [ -e "$library" ] || [ -n "${DESK_LIB_DIR-}" ] || tools/build desk_c
   [ -e "$library" ] || { echo "c_interface.sh: no $library"; exit 1; }
 }
 

@@ -11,7 +11,7 @@ for name in stdin stdout; do
   [ -s "crates/typed_dates/$name" ] || { echo "calendar.sh: no crates/typed_dates/$name"; exit 1; }
 done
 python3 tests/typed_dates.py answers-to < crates/typed_dates/stdin | cmp - crates/typed_dates/stdout
-[ -e target/bin/typed_dates ] || rt check typed_dates
+[ -e target/bin/typed_dates ] || tools/build typed_dates
 python3 tests/typed_dates.py lines > "$room/lines"
 python3 tests/typed_dates.py answers > "$room/answers"
 target/bin/typed_dates < "$room/lines" | cmp - "$room/answers"

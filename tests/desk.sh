@@ -122,9 +122,9 @@ cut_file() {
 # a copy of the script at the top of a bare folder, with stand-ins for rt
 bare_folder() {
   local tool bare=$room/bare
-  mkdir -p "$bare/crates" "$room/tools" && touch "$bare/crates.txt"
-  cp desk "$bare/desk" && cp samples/roster-a.stream "$bare/stream"
-  for tool in bash dirname readlink cat find mktemp tee grep tail rm touch mkdir chmod; do
+  mkdir -p "$bare/crates/shift_log" "$bare/tools" "$room/tools" && touch "$bare/crates.txt"
+  cp tools/build "$bare/tools/build" && cp desk "$bare/desk" && cp samples/roster-a.stream "$bare/stream"
+  for tool in bash dirname readlink cat find mktemp tee grep tail rm touch mkdir chmod cp mv; do
     ln -s "$(command -v "$tool")" "$room/tools/$tool"
   done
   refused 1 'desk: rt is missing: it is needed to build target/bin/shift_log' \
@@ -142,22 +142,22 @@ rt_is() {
 builds() {
   local bare=$room/bare first='desk: proving and building target/bin/shift_log: some minutes the first time'
   rt_is <<< 'echo because; exit 1'
-  refused 1 "$first"$'\n'"because"$'\n'"desk: 'rt check shift_log' failed with status 1" \
+  refused 1 "$first"$'\n'"because"$'\n'"desk: 'tools/build shift_log' failed with status 1" \
     env PATH="$room/tools" "$bare/desk" log "$bare/stream"
   rt_is << 'END'
 cat > /dev/null
-mkdir -p target/bin
-printf '#!%s\ncat\n' "$BASH" > target/bin/shift_log
-chmod +x target/bin/shift_log
+mkdir -p out
+printf '#!%s\ncat\n' "$BASH" > out/shift_log
+chmod +x out/shift_log
 echo "rt: $*"
 END
   PATH=$room/tools "$bare/desk" log "$bare/stream" > "$room/out" 2> "$room/err"
   told 'the built program is not run on the file' cmp "$room/out" "$bare/stream"
-  told "building says $(cat "$room/err")" [ "$(cat "$room/err")" = "$first"$'\n''rt: check shift_log' ]
+  told "building says $(cat "$room/err")" [ "$(cat "$room/err")" = "$first"$'\n''rt: run' ]
   logged "$bare/stream" env PATH="$room/tools" "$bare/desk" log "$bare/stream"
   touch -d '1 minute' "$bare/crates.txt"
   PATH=$room/tools "$bare/desk" log "$bare/stream" > "$room/out" 2> "$room/err"
-  told 'newer sources are not built' grep -q '^rt: check shift_log$' "$room/err"
+  told 'newer sources are not built' grep -q '^rt: run$' "$room/err"
 }
 
 # root reads every file, so that root tries it as nobody

@@ -11,8 +11,9 @@ import subprocess
 
 TOKEN = re.compile(r"(?<![A-Za-z0-9_])(?:[A-Za-z_][A-Za-z0-9_'-]*[A-Za-z0-9_']|[A-Za-z_])")
 QUOTED = re.compile(r'(b?"(?:[^"\\]|\\.)*")')
-# a definition whose plain snake case is the name of a field or of another lemma
+# a definition whose plain snake case is the name of a field or of another lemma; and the unit of power
 OWN = {
+    "kW": "kW",
     "endMark": "with_end_mark",
     "lastStamp": "with_last_stamp",
     "partCount": "part_count_of",

@@ -1,6 +1,6 @@
 /*
  * Paper 01's roster A and the five reports of its log, judged through the C interface; then parts that break cover, an empty report,
- * the remark, and dates. C99, and C++ as well. Build the library with `rt staticlib desk`; then, from the top of the repository:
+ * the remark, and dates. C99, and C++ as well. Build the library with `tools/build desk_c`; then, from the top of the repository:
  *
  *     gcc -std=c99 -Iinclude examples/c/desk_example.c target/staticlib/libdesk.a -o example && ./example
  *

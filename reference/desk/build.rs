@@ -1,4 +1,4 @@
-//! Links the archive that `rt staticlib desk` writes; DESK_LIB_DIR names another folder.
+//! Links the archive that `tools/build desk_c` writes; DESK_LIB_DIR names another folder.
 
 use std::path::PathBuf;
 use std::process::exit;
@@ -17,7 +17,7 @@ fn main() {
     println!("cargo:rerun-if-changed={}", archive.display());
     if !archive.is_file() {
         eprintln!(
-            "{} is missing: run rt staticlib desk first",
+            "{} is missing: run tools/build desk_c first",
             archive.display()
         );
         exit(1);
