@@ -1,28 +1,28 @@
 // What the program prints.
-use libc::STDOUT_FILENO;
 use rules::Answer;
+use std::io;
 
-pub(crate) fn say(words: &[u8]) {
-    io::write_all(STDOUT_FILENO, words);
+pub(crate) fn say(rt: &impl Print, words: &[u8]) -> io::Result<()> {
+    rt.write_all(words)
 }
 
-fn say_number(n: u16) {
-    io::print_decimal(STDOUT_FILENO, n as u64);
+fn say_number(rt: &impl Print, n: u16) -> io::Result<()> {
+    rt.print(n)
 }
 
-fn say_refusal(a: Answer) {
-    say(b": refused with ");
-    say_number(a.number as u16);
+fn say_refusal(rt: &impl Print, a: Answer) -> io::Result<()> {
+    say(rt, b": refused with ")?;
+    say_number(rt, a.number as u16)
 }
 
-pub(crate) fn say_answer(a: Answer) {
+pub(crate) fn say_answer(rt: &impl Print, a: Answer) -> io::Result<()> {
     if a.number != 0 {
-        say_refusal(a);
+        say_refusal(rt, a)?;
     } else if a.warnings != 0 {
-        say(b": accepted with warning ");
-        say_number(a.warnings as u16);
+        say(rt, b": accepted with warning ")?;
+        say_number(rt, a.warnings as u16)?;
     } else {
-        say(b": accepted");
+        say(rt, b": accepted")?;
     }
-    say(b"\n");
+    say(rt, b"\n")
 }

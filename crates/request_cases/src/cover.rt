@@ -5,6 +5,7 @@ use crate::lines::{line, say, say_number};
 use records::{STOP, WITHDRAW};
 use report::{PART_SIZE, PARTS_START};
 use sent_reports::{D, derating_over, fresh};
+use std::io;
 
 // Where a part has its start and its end.
 const START: usize = 4;
@@ -18,14 +19,17 @@ struct Place {
     count: u16,
 }
 
-pub(crate) fn cases(register: &mut [u8]) {
-    say(b"Which part breaks cover: parts of a quarter of an hour from D+60 on\n");
-    altered_at(register, 57, 90);
-    altered_at(register, 1, 100);
-    altered_at(register, 100, 100);
-    told_elsewhere(register);
-    other_periods(register);
-    no_list(register);
+pub(crate) fn cases(rt: &impl Print, register: &mut [u8]) -> io::Result<()> {
+    say(
+        rt,
+        b"Which part breaks cover: parts of a quarter of an hour from D+60 on\n",
+    )?;
+    altered_at(rt, register, 57, 90)?;
+    altered_at(rt, register, 1, 100)?;
+    altered_at(rt, register, 100, 100)?;
+    told_elsewhere(rt, register)?;
+    other_periods(rt, register)?;
+    no_list(rt, register)
 }
 
 // Where so many parts end.
@@ -67,119 +71,175 @@ fn compose(report: &mut [u8], count: u16) -> usize {
     end
 }
 
-fn judged(register: &mut [u8], report: &[u8], end: usize, words: &[u8]) {
+fn judged(
+    rt: &impl Print,
+    register: &mut [u8],
+    report: &[u8],
+    end: usize,
+    words: &[u8],
+) -> io::Result<()> {
     if end <= report.len() {
         fresh(register);
-        line(register, report, end, words);
+        line(rt, register, report, end, words)?;
     }
+    Ok(())
 }
 
 // One number of a list is another.
-fn altered(register: &mut [u8], count: u16, at: usize, value: u32, words: &[u8]) {
+fn altered(
+    rt: &impl Print,
+    register: &mut [u8],
+    count: u16,
+    at: usize,
+    value: u32,
+    words: &[u8],
+) -> io::Result<()> {
     let mut report = [0u8; 1850];
     let end = compose(&mut report, count);
     fields::put_u32(&mut report, at, value);
-    judged(register, &report, end, words);
+    judged(rt, register, &report, end, words)
 }
 
-fn say_place(p: Place) {
-    say(b"part ");
-    say_number(p.number);
-    say(b" of ");
-    say_number(p.count);
+fn say_place(rt: &impl Print, p: Place) -> io::Result<()> {
+    say(rt, b"part ")?;
+    say_number(rt, p.number)?;
+    say(rt, b" of ")?;
+    say_number(rt, p.count)
 }
 
 // A list with one part that starts as said.
-fn starts(register: &mut [u8], p: Place, time: u32, words: &[u8]) {
-    say_place(p);
-    altered(register, p.count, offset_of(p.number) + START, time, words);
+fn starts(
+    rt: &impl Print,
+    register: &mut [u8],
+    p: Place,
+    time: u32,
+    words: &[u8],
+) -> io::Result<()> {
+    say_place(rt, p)?;
+    altered(
+        rt,
+        register,
+        p.count,
+        offset_of(p.number) + START,
+        time,
+        words,
+    )
 }
 
 // A list with one part that ends as said.
-fn ends(register: &mut [u8], p: Place, time: u32, words: &[u8]) {
-    say_place(p);
-    altered(register, p.count, offset_of(p.number) + END, time, words);
+fn ends(rt: &impl Print, register: &mut [u8], p: Place, time: u32, words: &[u8]) -> io::Result<()> {
+    say_place(rt, p)?;
+    altered(
+        rt,
+        register,
+        p.count,
+        offset_of(p.number) + END,
+        time,
+        words,
+    )
 }
 
 // A part as it should be, and each way in which it breaks cover itself.
-fn altered_at(register: &mut [u8], number: u16, count: u16) {
+fn altered_at(rt: &impl Print, register: &mut [u8], number: u16, count: u16) -> io::Result<()> {
     let p = Place { number, count };
-    starts_elsewhere(register, p);
-    ends_elsewhere(register, p);
+    starts_elsewhere(rt, register, p)?;
+    ends_elsewhere(rt, register, p)
 }
 
-fn starts_elsewhere(register: &mut [u8], p: Place) {
+fn starts_elsewhere(rt: &impl Print, register: &mut [u8], p: Place) -> io::Result<()> {
     let due = end_of(p.number) - 15;
-    starts(register, p, due, b" starts where it is due: ");
-    starts(register, p, due + 1, b" starts a minute late: ");
-    starts(register, p, due - 1, b" starts a minute early: ");
+    starts(rt, register, p, due, b" starts where it is due: ")?;
+    starts(rt, register, p, due + 1, b" starts a minute late: ")?;
+    starts(rt, register, p, due - 1, b" starts a minute early: ")
 }
 
-fn ends_elsewhere(register: &mut [u8], p: Place) {
+fn ends_elsewhere(rt: &impl Print, register: &mut [u8], p: Place) -> io::Result<()> {
     let start = end_of(p.number) - 15;
     let late = end_of(p.count) + 15;
-    ends(register, p, start, b" ends where it starts: ");
-    ends(register, p, start - 15, b" ends before it starts: ");
-    ends(register, p, late, b" ends after the period: ");
+    ends(rt, register, p, start, b" ends where it starts: ")?;
+    ends(rt, register, p, start - 15, b" ends before it starts: ")?;
+    ends(rt, register, p, late, b" ends after the period: ")
 }
 
 // An end within the period: the next part, or question 7, says so.
-fn told_elsewhere(register: &mut [u8]) {
+fn told_elsewhere(rt: &impl Print, register: &mut [u8]) -> io::Result<()> {
     let p = Place {
         number: 57,
         count: 90,
     };
     let due = end_of(57);
     ends(
+        rt,
         register,
         p,
         due + 15,
         b" ends with the next one, which then overlaps it: ",
-    );
+    )?;
     ends(
+        rt,
         register,
         p,
         due + 1,
         b" ends a minute late, off the quarter hour: ",
-    );
+    )
 }
 
 // The report's period ends elsewhere.
-fn over(register: &mut [u8], count: u16, period_end: u32, words: &[u8]) {
-    altered(register, count, 40, period_end, words);
+fn over(
+    rt: &impl Print,
+    register: &mut [u8],
+    count: u16,
+    period_end: u32,
+    words: &[u8],
+) -> io::Result<()> {
+    altered(rt, register, count, 40, period_end, words)
 }
 
-fn other_periods(register: &mut [u8]) {
+fn other_periods(rt: &impl Print, register: &mut [u8]) -> io::Result<()> {
     let late = end_of(101);
-    over(register, 1, late, b"one part, and the period is longer: ");
     over(
+        rt,
+        register,
+        1,
+        late,
+        b"one part, and the period is longer: ",
+    )?;
+    over(
+        rt,
         register,
         100,
         late,
         b"a hundred parts, and the period is longer: ",
-    );
+    )?;
     over(
+        rt,
         register,
         90,
         end_of(88),
         b"ninety parts, and the period ends with the 88th: ",
-    );
-    over(register, 0, late, b"a derating without parts: ");
+    )?;
+    over(rt, register, 0, late, b"a derating without parts: ")
 }
 
 // Parts where none may be.
-fn no_list(register: &mut [u8]) {
+fn no_list(rt: &impl Print, register: &mut [u8]) -> io::Result<()> {
     let mut report = [0u8; 1850];
     let end = compose(&mut report, 90);
     fields::put_u8(&mut report, 7, WITHDRAW);
-    judged(register, &report, end, b"a withdrawal with ninety parts: ");
-    stop_with_parts(register);
+    judged(
+        rt,
+        register,
+        &report,
+        end,
+        b"a withdrawal with ninety parts: ",
+    )?;
+    stop_with_parts(rt, register)
 }
 
-fn stop_with_parts(register: &mut [u8]) {
+fn stop_with_parts(rt: &impl Print, register: &mut [u8]) -> io::Result<()> {
     let mut report = [0u8; 1850];
     let end = compose(&mut report, 90);
     fields::put_u8(&mut report, 6, STOP);
     fields::put_u8(&mut report, 11, 1);
-    judged(register, &report, end, b"a stop with ninety parts: ");
+    judged(rt, register, &report, end, b"a stop with ninety parts: ")
 }

@@ -1,9 +1,10 @@
-// A2: a derating on unit 1 of roster A, 20,000 k_w from 12:00, planned to 16:00, that ended at 14:07.
+// A2: a derating on unit 1 of roster A, 20,000 kW from 12:00, planned to 16:00, that ended at 14:07.
 ghost use Rattle.std.specs.Prelude.{◌≤◌};
 
 use crate::lines::{line, say};
 use records::{CHANGE, CREATE, EXECUTED, NEGATIVE_DERATING, PLANNED, STOP, WITHDRAW};
 use sent_reports::{D, Sent, derating_over, event, fresh};
+use std::io;
 
 // Minutes of 2026-03-01.
 const NOON: u32 = D + 720;
@@ -24,18 +25,21 @@ struct Change {
     part_end: u32,
 }
 
-pub(crate) fn cases(register: &mut [u8]) {
-    say(b"\nA derating that ended early: from 12:00, planned to 16:00\n");
-    story(register);
-    other_times(register);
-    other_fields(register);
+pub(crate) fn cases(rt: &impl Print, register: &mut [u8]) -> io::Result<()> {
+    say(
+        rt,
+        b"\nA derating that ended early: from 12:00, planned to 16:00\n",
+    )?;
+    story(rt, register)?;
+    other_times(rt, register)?;
+    other_fields(rt, register)
 }
 
-fn other_times(register: &mut [u8]) {
-    say(b"\nOther times, of the derating that has begun\n");
-    other_ends(register);
-    ends_outside(register);
-    other_stamps(register);
+fn other_times(rt: &impl Print, register: &mut [u8]) -> io::Result<()> {
+    say(rt, b"\nOther times, of the derating that has begun\n")?;
+    other_ends(rt, register)?;
+    ends_outside(rt, register)?;
+    other_stamps(rt, register)
 }
 
 fn planned(stamp: u32, start: u32) -> Change {
@@ -81,10 +85,10 @@ fn compose(report: &mut [u8], c: Change) -> usize
     size
 }
 
-fn then(register: &mut [u8], c: Change, words: &[u8]) {
+fn then(rt: &impl Print, register: &mut [u8], c: Change, words: &[u8]) -> io::Result<()> {
     let mut report = [0u8; 82];
     let size = compose(&mut report, c);
-    line(register, &report, size, words);
+    line(rt, register, &report, size, words)
 }
 
 fn silently(register: &mut [u8], c: Change) {
@@ -94,139 +98,158 @@ fn silently(register: &mut [u8], c: Change) {
 }
 
 // A report after the derating was planned, on a fresh register, and has begun.
-fn running(register: &mut [u8], c: Change, words: &[u8]) {
+fn running(rt: &impl Print, register: &mut [u8], c: Change, words: &[u8]) -> io::Result<()> {
     fresh(register);
     silently(register, planned(NOON - 10, NOON));
     silently(register, begun());
-    then(register, c, words);
+    then(rt, register, c, words)
 }
 
-fn story(register: &mut [u8]) {
+fn story(rt: &impl Print, register: &mut [u8]) -> io::Result<()> {
     fresh(register);
-    then(register, planned(NOON - 10, NOON), b"planned at 11:50: ");
     then(
+        rt,
+        register,
+        planned(NOON - 10, NOON),
+        b"planned at 11:50: ",
+    )?;
+    then(
+        rt,
         register,
         ended(SAID, ENDED),
         b"ended at 14:07, though nobody said that it has begun: ",
-    );
-    begun_and_ended(register);
+    )?;
+    begun_and_ended(rt, register)
 }
 
-fn begun_and_ended(register: &mut [u8]) {
-    then(register, begun(), b"begun at 12:00, said at 12:03: ");
+fn begun_and_ended(rt: &impl Print, register: &mut [u8]) -> io::Result<()> {
+    then(rt, register, begun(), b"begun at 12:00, said at 12:03: ")?;
     then(
+        rt,
         register,
         ended(SAID, ENDED),
         b"ended at 14:07, said at 14:10: ",
-    );
-    afterwards(register);
+    )?;
+    afterwards(rt, register)
 }
 
-fn afterwards(register: &mut [u8]) {
+fn afterwards(rt: &impl Print, register: &mut [u8]) -> io::Result<()> {
     then(
+        rt,
         register,
         ended(SAID, ENDED),
         b"the same once more, its record has left: ",
-    );
+    )?;
     then(
+        rt,
         register,
         planned(D + 890, D + 900),
         b"its identifier created anew, from 15:00: ",
-    );
+    )
 }
 
-fn other_ends(register: &mut [u8]) {
-    running(register, ended(SAID, NOON + 1), b"ended after a minute: ");
-    running(register, ended(SAID, SAID), b"ended when it is said: ");
-}
-
-fn ends_outside(register: &mut [u8]) {
-    running(register, ended(SAID, NOON), b"ended where it started: ");
+fn other_ends(rt: &impl Print, register: &mut [u8]) -> io::Result<()> {
     running(
+        rt,
+        register,
+        ended(SAID, NOON + 1),
+        b"ended after a minute: ",
+    )?;
+    running(rt, register, ended(SAID, SAID), b"ended when it is said: ")
+}
+
+fn ends_outside(rt: &impl Print, register: &mut [u8]) -> io::Result<()> {
+    running(rt, register, ended(SAID, NOON), b"ended where it started: ")?;
+    running(
+        rt,
         register,
         ended(SAID, SAID + 1),
         b"ended a minute after it is said: ",
-    );
+    )
 }
 
-fn other_stamps(register: &mut [u8]) {
+fn other_stamps(rt: &impl Print, register: &mut [u8]) -> io::Result<()> {
     running(
+        rt,
         register,
         ended(NOON + 2, NOON + 1),
         b"said before the last report: ",
-    );
+    )?;
     running(
+        rt,
         register,
         ended(PLANNED_END - 1, ENDED),
         b"said a minute before its planned end: ",
-    );
+    )?;
     running(
+        rt,
         register,
         ended(PLANNED_END, ENDED),
         b"said at its planned end, when it is gone: ",
-    );
+    )
 }
 
-fn other_fields(register: &mut [u8]) {
-    say(b"\nEnded at 14:07, but\n");
-    other_marks(register);
-    other_operations(register);
-    other_types(register);
-    other_parts(register);
+fn other_fields(rt: &impl Print, register: &mut [u8]) -> io::Result<()> {
+    say(rt, b"\nEnded at 14:07, but\n")?;
+    other_marks(rt, register)?;
+    other_operations(rt, register)?;
+    other_types(rt, register)?;
+    other_parts(rt, register)
 }
 
-fn other_marks(register: &mut [u8]) {
+fn other_marks(rt: &impl Print, register: &mut [u8]) -> io::Result<()> {
     let mut c = ended(SAID, ENDED);
     c.end_mark = 3;
-    running(register, c, b"end mark 3: ");
+    running(rt, register, c, b"end mark 3: ")?;
     c.end_mark = PLANNED;
-    running(register, c, b"end mark 1, planned: ");
+    running(rt, register, c, b"end mark 1, planned: ")?;
     c.end_mark = EXECUTED;
     c.sent.start_mark = PLANNED;
-    running(register, c, b"start mark 1, planned: ");
+    running(rt, register, c, b"start mark 1, planned: ")
 }
 
-fn other_operations(register: &mut [u8]) {
+fn other_operations(rt: &impl Print, register: &mut [u8]) -> io::Result<()> {
     let mut c = ended(SAID, ENDED);
     c.operation = WITHDRAW;
-    running(register, c, b"as a withdrawal: ");
+    running(rt, register, c, b"as a withdrawal: ")?;
     c.operation = CREATE;
-    running(register, c, b"as a creation: ");
+    running(rt, register, c, b"as a creation: ")?;
     c.operation = CHANGE;
     c.ordinal = 2;
-    running(register, c, b"with an ordinal that is not greater: ");
+    running(rt, register, c, b"with an ordinal that is not greater: ")
 }
 
-fn other_types(register: &mut [u8]) {
+fn other_types(rt: &impl Print, register: &mut [u8]) -> io::Result<()> {
     let mut c = ended(SAID, ENDED);
     c.sent.record_type = NEGATIVE_DERATING;
-    running(register, c, b"of another type than its record: ");
+    running(rt, register, c, b"of another type than its record: ")?;
     c.sent.record_type = STOP;
     c.sent.qualification = 1;
-    running(register, c, b"of a stop: ");
+    running(rt, register, c, b"of a stop: ")?;
     c.sent = event(5);
     c.sent.stamp = SAID;
     c.operation = CREATE;
-    running(register, c, b"of an event: ");
+    running(rt, register, c, b"of an event: ")
 }
 
-fn other_parts(register: &mut [u8]) {
+fn other_parts(rt: &impl Print, register: &mut [u8]) -> io::Result<()> {
     let mut c = ended(SAID, ENDED);
     c.part_end = PLANNED_END;
-    running(register, c, b"its part still ends at 16:00: ");
+    running(rt, register, c, b"its part still ends at 16:00: ")?;
     c.part_end = ENDED - 1;
-    running(register, c, b"its part ends at 14:06: ");
-    other_powers(register);
+    running(rt, register, c, b"its part ends at 14:06: ")?;
+    other_powers(rt, register)
 }
 
-fn other_powers(register: &mut [u8]) {
+fn other_powers(rt: &impl Print, register: &mut [u8]) -> io::Result<()> {
     let mut c = ended(SAID, ENDED);
     c.sent.power = 100000000;
-    running(register, c, b"at 100,000,000 kW: ");
+    running(rt, register, c, b"at 100,000,000 kW: ")?;
     c.sent.power = 200001;
     running(
+        rt,
         register,
         c,
         b"at 200,001 kW, above Pmax, which is passed over: ",
-    );
+    )
 }

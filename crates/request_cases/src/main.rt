@@ -5,9 +5,14 @@ mod cover;
 mod early_end;
 mod lines;
 
-fn main() {
+use std::io;
+
+fn main(rt: HostRuntime) -> io::Result<()> {
     let mut register = [0u8; 14336];
-    lines::say(b"After each colon the log's line: no unit answer warn part stamp\n\n");
-    cover::cases(&mut register);
-    early_end::cases(&mut register);
+    lines::say(
+        &rt,
+        b"After each colon the log's line: no unit answer warn part stamp\n\n",
+    )?;
+    cover::cases(&rt, &mut register)?;
+    early_end::cases(&rt, &mut register)
 }

@@ -23,6 +23,6 @@ returns-else-s-eq0 c =
 pub returns-else-is_levelled : goal.returns-else-is_levelled
 unfolding pick
 returns-else-is_levelled c = record {
-      upper_bound = omega arith;
-      value = rw (sym c.is_levelled.ensures ∙ c.if-is_levelled.false);
-    }
+  upper_bound = omega arith;
+  value = rw (sym c.is_levelled.ensures ∙ c.if-is_levelled.false);
+}
