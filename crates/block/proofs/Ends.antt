@@ -43,6 +43,10 @@ pub record EndsRisen (z : List ℕ) (k first end : ℕ) (rise : Bool) (bound sta
 pub bits_back : {x : ℤ} {n : ℕ} → n < 4294967296 → x ≡ to_z w32 n → of_z w32 x ≡ n
 bits_back {x} {n} l e = ap (of_z w32) e ∙ of_z-to_z w32 n (record { fits = l })
 
+-- and of one that a loop keeps by its bits
+pub bits_kept : {x : ℤ} {n : ℕ} → n < 4294967296 → x ≡ to_z w32 n → of_z w32 (to_z w32 (of_z w32 x)) ≡ n
+bits_kept {x} {n} l e = bits_back l (ap (to_z w32) (bits_back l e))
+
 module _ {z : List ℕ} {k first end : ℕ} where
   pub risen-none : {start : ℕ} → first < 2147483648 → start ≡ first → EndsRisen z k first end true 0 start 0
   risen-none {start} l e =

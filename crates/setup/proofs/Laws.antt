@@ -1,7 +1,7 @@
 -- Zeros written one by one, the fresh block, and one block after the other. Assumes nothing.
 use Prim.Native.Nat.{ℕ, zero, ◌+◌, ◌*◌, ◌-◌, ◌≤◌}
 use mathlib.Core.Path.{◌≡◌, refl, ap, sym, ◌∙◌}
-use mathlib.Core.Bool.{Bool, true, false, not}
+use mathlib.Core.Bool.{Bool, true, false}
 use mathlib.Core.List.{List, [], ◌++◌}
 use native.Mathlib.Omega.{arith}
 use native.Mathlib.Nat.{zero-add}
@@ -9,7 +9,7 @@ use lib.Dec.{eqb}
 use lib.ListN.{length, take, drop, length-append, length-replicate, replicate-append-replicate, drop_of_length-le}
 use lib.Seq.{sets-eq}
 use mathlib.Core.List.{append-nil}
-use borrow.Author.Tests.{eqb-true, eq-eqb, ne_eqb, not-true, not-false}
+use borrow.Author.Tests.{eqb-true, eq-eqb, ne_eqb}
 use Rattle.fields.specs.Fields.{bytes_of}
 use Rattle.fields.specs.Lists.{pick, joined, part, put}
 use Rattle.fields.proofs.Bools.{every_true, range-true}
@@ -120,21 +120,21 @@ blocks-all roster first n l =
 
 -- the ways to a refusal
 module _ (roster : List ℕ) (size : ℕ) {g : Bool} (asked : g ≡ roster_good roster) where
-  pub bad-roster : not g ≡ true → 20 ≡ refusal_of roster size
+  pub bad-roster : g ≡ false → 20 ≡ refusal_of roster size
   unfolding refusal_of pick
-  bad-roster e = rw (← asked, not-true g e)
+  bad-roster e = rw (← asked, e)
 
-  pub roster-few : not g ≡ false → units roster ≤ most_units
+  pub roster-few : g ≡ true → units roster ≤ most_units
   unfolding pieces_pass
-  roster-few e = (range-true 1 most_units (units roster) (every_true _ (sym asked ∙ not-false g e)).1.0).1
+  roster-few e = (range-true 1 most_units (units roster) (every_true _ (sym asked ∙ e)).1.0).1
 
-  pub bad-size : not g ≡ false → (size ≡ block_size * units roster → ⊥) → 21 ≡ refusal_of roster size
+  pub bad-size : g ≡ true → (size ≡ block_size * units roster → ⊥) → 21 ≡ refusal_of roster size
   unfolding refusal_of pick
-  bad-size e h = rw (← asked, not-false g e, ne_eqb _ _ h)
+  bad-size e h = rw (← asked, e, ne_eqb _ _ h)
 
-  pub no-refusal : not g ≡ false → size ≡ block_size * units roster → 0 ≡ refusal_of roster size
+  pub no-refusal : g ≡ true → size ≡ block_size * units roster → 0 ≡ refusal_of roster size
   unfolding refusal_of pick
-  no-refusal e h = rw (← asked, not-false g e, eq-eqb _ _ h)
+  no-refusal e h = rw (← asked, e, eq-eqb _ _ h)
 
 -- what set-up answers and leaves
 abbrev Done : List ℕ → List ℕ → ℕ → List ℕ → Type 0

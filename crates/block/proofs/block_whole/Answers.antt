@@ -10,9 +10,9 @@ returns-then-not-head_whole c = wrong-head _ _ c.if-b-ne-BLOCK_SIZE.false c.head
 
 pub slots_whole-requires : goal.slots_whole-requires
 slots_whole-requires c = record {
-      b_len = c.if-b-ne-BLOCK_SIZE.false;
-      free_from = c.free_from-end.ensures;
-    }
+  b_len = c.if-b-ne-BLOCK_SIZE.false;
+  free_from = c.free_from-end.ensures;
+}
 
 pub returns-then-not-slots_whole : goal.returns-then-not-slots_whole
 returns-then-not-slots_whole c = wrong-slot _ _ c.if-b-ne-BLOCK_SIZE.false

@@ -11,12 +11,12 @@ loop-i-init c = tested-none
 
 pub returns-then-not-entry_good : goal.returns-then-not-entry_good
 returns-then-not-entry_good c = pieces-fail entry_size (λ (u : ℕ) (e : List ℕ). entry_good e) _ _ _ c.loop-i.invariant
-    (omega arith) (piece-at entry_size (λ (u : ℕ) (e : List ℕ). entry_good e) _ _ c.before.before.Slice-at.ensures
+    (omega arith) (piece-at entry_size (λ (u : ℕ) (e : List ℕ). entry_good e) _ _ c.slice_at.ensures
     c.entry_good.ensures) c.if-not-entry_good.true
 
 pub loop-i-preserved : goal.loop-i-preserved
 loop-i-preserved c = passes_on c.loop-i.invariant (omega arith)
-    (piece-at entry_size (λ (u : ℕ) (e : List ℕ). entry_good e) _ _ c.before.before.Slice-at.ensures
+    (piece-at entry_size (λ (u : ℕ) (e : List ℕ). entry_good e) _ _ c.slice_at.ensures
     c.entry_good.ensures) c.if-not-entry_good.false
 
 pub returns : goal.returns

@@ -1,4 +1,3 @@
-
 use Rattle.block.proofs.entry_of.Goals as goal
 
 pub returns : goal.returns

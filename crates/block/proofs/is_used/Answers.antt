@@ -1,4 +1,3 @@
-
 use Rattle.block.proofs.is_used.Goals as goal
 
 pub returns : goal.returns

@@ -1,4 +1,3 @@
-
 use Rattle.block.proofs.pair_at.Goals as goal
 
 pub returns-then-at-z : goal.returns-then-at-z

@@ -13,9 +13,9 @@ loop-j-init c = (omega arith, omega arith, refl)
 
 pub loop-j-preserved : goal.loop-j-preserved
 loop-j-preserved c =
-    (omega arith, omega arith, bytes_next _ 8 c.loop-j.j c.args.t2 (search rules) c.loop-j.invariant.2 refl c.put_u8.ensures)
+    (omega arith, omega arith, bytes_next _ 8 c.loop-j.j c.args.identifier (search rules) c.loop-j.invariant.2 refl c.put_u8.ensures)
 
 pub returns : goal.returns
 returns c =
     let e : c.loop-j.j ≡ 16 = omega arith in
-    (rw e at c.loop-j.invariant.2) ∙ ap (put _ 8) (take_all 16 c.args.t2 (search rules))
+    (rw e at c.loop-j.invariant.2) ∙ ap (put _ 8) (take_all 16 c.args.identifier (search rules))

@@ -2,10 +2,8 @@ use Rattle.fields.specs.Lists.{part}
 use Rattle.block.proofs.Padded.{record-copied}
 use Rattle.block.proofs.record_in.Goals as goal
 
-pub record-in-spec : {M : Type 1} → statement M
-
 pub returns : goal.returns
 unfolding part
-returns c = record-copied _ c.before.before.before.before.before.before.before.before.before.first48.ensures
+returns c = record-copied _ c.first48-slot.ensures
     c.first16-identifier.ensures c.minute_at-stamp.ensures
     c.period_at-period.ensures c.u16_at.ensures

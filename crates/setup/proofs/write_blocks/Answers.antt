@@ -15,11 +15,11 @@ write_fresh-requires c =
 
 pub loop-i-preserved : goal.loop-i-preserved
 loop-i-preserved c = let l =
-    block-lent _ _ _ _ c.before.before.before.before.before.Slice-at.ensures
+    block-lent _ _ _ _ c.slice_at.ensures
     c.entry_of-e.ensures
     c.loop-i.invariant.1
     c.loop-i.invariant.2 (omega arith)
-    c.write_fresh.auto.0 c.write_fresh.ensures in (omega arith, l.0, l.1)
+    c.write_fresh.auto.b c.write_fresh.ensures in (omega arith, l.0, l.1)
 
 pub returns : goal.returns
 returns c = let e : c.loop-i.i ≡ c.args.n =
