@@ -5,16 +5,14 @@ use Rattle.after.proofs.apply.Goals as goal
 
 pub set_slots-requires : goal.set_slots-requires
 set_slots-requires c =
-    let head = c in
-    tested head.before.before.before.args.b.now _ head.head_of.ensures test.if1.true
+    let k = tested c.args.b.now _ c.head_of-h.ensures c.if-b-h.true in
+    record { b_len = k.0; report_bound = k.1 }
 
 pub returns-then-b-h : goal.returns-then-b-h
 returns-then-b-h c =
-    let test = c in
-    let head = test.before.before in
-    let k = tested head.before.before.before.args.b.now _ head.head_of.ensures test.if1.true in
+    let k = tested c.args.b.now _ c.head_of-h.ensures c.if-b-h.true in
     applied _ _ _ k.0 k.1 c.row_after-row.ensures
-    (ap (λ (h : Head). h.stamp.0) head.head_of.ensures)
+    (ap (λ (h : Head). h.stamp.0) c.head_of-h.ensures)
     c.set_slots.ensures c.set_head.ensures
 
 pub returns-else-b-h : goal.returns-else-b-h

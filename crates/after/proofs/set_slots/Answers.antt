@@ -20,14 +20,14 @@ set_slot-requires c =
 
 pub loop-i-preserved : goal.loop-i-preserved
 loop-i-preserved c =
-    let here = c in
-    let a = here.before.before.before.args in
-    let size : length a.b.now ≡ block_size = omega arith in
-    let few : part_count_of a.report.now ≤ most_parts = omega arith in
+    let b = c.args.b.now in
+    let report = c.args.report.now in
+    let size : length b ≡ block_size = omega arith in
+    let few : part_count_of report ≤ most_parts = omega arith in
     let e =
-    slot-turned a.b.now a.report.now a.t3 size few _ _ here.loop.i here.loop.invariant.2 (omega arith)
-    c.set_slot.auto.0 c.set_slot.ensures in
-    (omega arith, ap length e ∙ progress-length a.b.now a.report.now a.t3 size few (here.loop.i + 1), e)
+    slot-turned b report c.args.plan size few _ _ c.loop-i.i c.loop-i.invariant.2 (omega arith)
+    c.set_slot.auto.z c.set_slot.ensures in
+    (omega arith, ap length e ∙ progress-length b report c.args.plan size few (c.loop-i.i + 1), e)
 
 pub returns : goal.returns
 returns c = let e : c.loop-i.i ≡ 8 = omega arith in rw e at c.loop-i.invariant.2 ∙ progress-all _ _ _
