@@ -7,7 +7,7 @@ use native.Mathlib.Omega.{arith}
 use native.Mathlib.Numerals.{add-one}
 use lib.Dec.{eqb}
 use lib.ListN.{get_or}
-use borrow.Author.Tests.{ne_eqb, le-ltb, not-true, not-false}
+use borrow.Author.Tests.{ne_eqb, le-ltb}
 use Rattle.fields.specs.Lists.{pick, series}
 use Rattle.quantities.specs.declared.Minute.{Minute}
 use Rattle.report.specs.declared.Head.{Head}
@@ -50,24 +50,24 @@ lane-level false r ps f k type direction m e p = rw (e, and-false, le-ltb m 0 (o
 
 -- whether it counts is asked first
 module _ (b : List ℕ) (i : ℕ) (t : Bool) (direction : ℕ) {l : Lane} where
-  pub slot-uncounted : not t ≡ true → l ≡ no_lane → l ≡ slot_lane b i t direction
+  pub slot-uncounted : t ≡ false → l ≡ no_lane → l ≡ slot_lane b i t direction
   unfolding slot_lane lane_of pick
-  slot-uncounted n e = e ∙ sym (ap (λ (t : Bool). slot_lane b i t direction) (not-true t n))
+  slot-uncounted n e = e ∙ sym (ap (λ (t : Bool). slot_lane b i t direction) n)
 
-  pub slot_counted : {z : List ℕ} {r : Record} {k : ℕ} → not t ≡ false → z ≡ slot_at b i → r ≡ record_in z → k ≡ stored_count z
+  pub slot_counted : {z : List ℕ} {r : Record} {k : ℕ} → t ≡ true → z ≡ slot_at b i → r ≡ record_in z → k ≡ stored_count z
       → l ≡ lane_of (eqb r.direction direction) r k → l ≡ slot_lane b i t direction
   unfolding slot_lane
-  slot_counted n z r k e = e ∙ rw (k, r, z) (sym (ap (λ (t : Bool). slot_lane b i t direction) (not-false t n)))
+  slot_counted n z r k e = e ∙ rw (k, r, z) (sym (ap (λ (t : Bool). slot_lane b i t direction) n))
 
 module _ (s : List ℕ) (t : Bool) (direction : ℕ) {l : Lane} where
-  pub report-uncounted : not t ≡ true → l ≡ no_lane → l ≡ report_lane s t direction
+  pub report-uncounted : t ≡ false → l ≡ no_lane → l ≡ report_lane s t direction
   unfolding report_lane lane_of pick
-  report-uncounted n e = e ∙ sym (ap (λ (t : Bool). report_lane s t direction) (not-true t n))
+  report-uncounted n e = e ∙ sym (ap (λ (t : Bool). report_lane s t direction) n)
 
-  pub report-counted : {h : Head} {r : Record} → not t ≡ false → h ≡ head_of s → r ≡ record_by h
+  pub report-counted : {h : Head} {r : Record} → t ≡ true → h ≡ head_of s → r ≡ record_by h
       → l ≡ lane_of (eqb r.direction direction) r h.part_count → l ≡ report_lane s t direction
   unfolding report_lane
-  report-counted n h r e = e ∙ rw (r, h) (sym (ap (λ (t : Bool). report_lane s t direction) (not-false t n)))
+  report-counted n h r e = e ∙ rw (r, h) (sym (ap (λ (t : Bool). report_lane s t direction) n))
 
 -- a lane that does not count
 lane-silent : (r : Record) (f : ℕ → Pair) (k type m : ℕ) → lane_level (lane_of false r k) f type m ≡ no_level

@@ -5,7 +5,7 @@ use mathlib.Core.Bool.{Bool, true, false, not, ◌&&◌, ◌||◌, false≢true}
 use mathlib.Core.List.{List, ◌∷◌}
 use lib.Dec.{eqb}
 use lib.ListN.{get_or}
-use borrow.Author.Tests.{not-true, not-false}
+use borrow.Author.Tests.{not-false}
 use Rattle.fields.specs.Lists.{pick, all, series}
 use Rattle.fields.proofs.Bools.{and_left, and_right}
 use Rattle.fields.proofs.Tests.{Tested, tested-more, tested-all, all-intro}
@@ -96,11 +96,11 @@ module _ (b s : List ℕ) (counted : List Bool) (with-report : Bool) where
         (swept_records b s counted with-report) forced_work direction m).there (eqb kind Z1) (eqb kind W1 || eqb kind M1))
 
     pub fits-apart : {h : Head} {types : CountedTypes} {t : Bool} → h ≡ head_of s → types ≡ counted_types b counted
-        → t ≡ types_meet types with-report h.record_type → not t ≡ true
+        → t ≡ types_meet types with-report h.record_type → t ≡ false
         → true ≡ levels_every (levels_fit kind range) (swept_records b s counted with-report) direction start end
     fits-apart {h} {types} {t} head asked meet e = by-case (swept_of forced_work) refl where
       apart : (swept_of forced_work && (swept_of positive_derating || swept_of negative_derating)) ≡ false
-      apart = rw (head, asked) at (sym meet ∙ not-true t e)
+      apart = rw (head, asked) at (sym meet ∙ e)
 
       by-case : (x : Bool) → swept_of forced_work ≡ x
           → true ≡ levels_every (levels_fit kind range) (swept_records b s counted with-report) direction start end

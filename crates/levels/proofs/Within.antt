@@ -6,7 +6,7 @@ use mathlib.Core.List.{List}
 use native.Mathlib.Omega.{arith}
 use lib.Dec.{leb, ltb, eqb}
 use lib.ListN.{get_or}
-use borrow.Author.Tests.{not-true, not-false}
+use borrow.Author.Tests.{not-true}
 use Rattle.fields.specs.Lists.{pick, all, series}
 use Rattle.fields.proofs.Bools.{and_left, and_right, pick-elim}
 use Rattle.fields.proofs.Tests.{all-intro, Tested, tested-more, tested-all}
@@ -154,18 +154,18 @@ module _ (kind : ℕ) (range : PowerRange) where
   pairs-tested z e t h = tested-all t h ∙ ap (λ (k : ℕ). all pair-within (series (pair_at z) 0 k)) e
 
   module _ (b : List ℕ) (i direction : ℕ) (t : Bool) where
-    pub slot-uncounted : not t ≡ true → true ≡ slot_within b i t direction kind range
+    pub slot-uncounted : t ≡ false → true ≡ slot_within b i t direction kind range
     unfolding slot_within
-    slot-uncounted n = sym (ap (λ (t : Bool). slot_within b i t direction kind range) (not-true t n))
+    slot-uncounted n = sym (ap (λ (t : Bool). slot_within b i t direction kind range) n)
 
-    module _ {z : List ℕ} {r : Record} (counts : not t ≡ false) (read : z ≡ slot_at b i) (fields : r ≡ record_in z) where
+    module _ {z : List ℕ} {r : Record} (counts : t ≡ true) (read : z ≡ slot_at b i) (fields : r ≡ record_in z) where
       asked : {v : Bool} → is_forced r direction ≡ v
           → (not v || pairs_within (slot_at b i) kind range) ≡ slot_within b i t direction kind range
       unfolding slot_within
       asked e =
           sym (ap (λ (v : Bool). not v || pairs_within (slot_at b i) kind range) e)
           ∙ ap (λ (r : Record). not (is_forced r direction) || pairs_within (slot_at b i) kind range) (fields ∙ ap record_in read)
-          ∙ sym (ap (λ (t : Bool). slot_within b i t direction kind range) (not-false t counts))
+          ∙ sym (ap (λ (t : Bool). slot_within b i t direction kind range) counts)
 
       pub slot-judged : {ok : Bool} → is_forced r direction ≡ true → ok ≡ pairs_within z kind range
           → ok ≡ slot_within b i t direction kind range

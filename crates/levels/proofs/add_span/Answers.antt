@@ -1,4 +1,3 @@
-
 use Rattle.levels.proofs.add_span.Goals as goal
 
 pub returns : goal.returns

@@ -1,4 +1,3 @@
-use Prim.Native.Nat.{◌-◌}
 use native.Mathlib.Omega.{arith}
 use Rattle.fields.proofs.Tests.{tested-none}
 use Rattle.rules.specs.Codes.{positive_derating, negative_derating, forced_work}
@@ -9,24 +8,15 @@ pub loop-i-init : goal.loop-i-init
 loop-i-init c = (tested-none, tested-none, tested-none)
 
 pub loop-i-preserved : goal.loop-i-preserved
-loop-i-preserved c =
-    let at-slot-at = c in
-    let at-loop = at-slot-at.before.before in
-    let at-args = at-loop.before.before in (
-      type-tested _ at-args.args.t2 forced_work at-loop.loop.invariant.0 (omega arith) at-slot-at.slot_at.ensures
-          c.record_in-r.ensures,
-      type-tested _ at-args.args.t2 positive_derating at-loop.loop.invariant.1 (omega arith) at-slot-at.slot_at.ensures
-          c.record_in-r.ensures,
-      type-tested _ at-args.args.t2 negative_derating at-loop.loop.invariant.2 (omega arith) at-slot-at.slot_at.ensures
-          c.record_in-r.ensures,
-    )
+loop-i-preserved c = (
+  type-tested _ c.args.counted forced_work c.loop-i.invariant.0 (omega arith) c.slot_at.ensures c.record_in-r.ensures,
+  type-tested _ c.args.counted positive_derating c.loop-i.invariant.1 (omega arith) c.slot_at.ensures c.record_in-r.ensures,
+  type-tested _ c.args.counted negative_derating c.loop-i.invariant.2 (omega arith) c.slot_at.ensures c.record_in-r.ensures,
+)
 
 pub returns : goal.returns
 returns c =
-    let forced = type-found c.args.b.now c.args.t2 forced_work c.loop-i.invariant.0
-    c.loop-i-test.false in
-    let positive = type-found c.args.b.now c.args.t2 positive_derating c.loop-i.invariant.1
-    c.loop-i-test.false in
-    let negative = type-found c.args.b.now c.args.t2 negative_derating c.loop-i.invariant.2
-    c.loop-i-test.false in
+    let forced = type-found c.args.b.now c.args.counted forced_work c.loop-i.invariant.0 c.loop-i-test.false in
+    let positive = type-found c.args.b.now c.args.counted positive_derating c.loop-i.invariant.1 c.loop-i-test.false in
+    let negative = type-found c.args.b.now c.args.counted negative_derating c.loop-i.invariant.2 c.loop-i-test.false in
     rw (forced, positive, negative)

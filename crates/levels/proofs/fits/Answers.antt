@@ -15,20 +15,12 @@ returns-then-not-forced c = fits-unforced _ _ _ _ _ _ _ _ (records-levels _ _ _ 
 
 pub returns-then-extremes_fit : goal.returns-then-extremes_fit
 returns-then-extremes_fit c =
-    let at-extremes-of = c in
-    let at-lanes-of = at-extremes-of.before in
-    fits-extremes _ _ _ _ _ _ _ _
-    (records-levels _ _ _ _ at-lanes-of.lanes-of.ensures)
-    at-extremes-of.extremes-of.ensures
-    c.extremes_of-positive.ensures c.extremes_of-negative.ensures
-    c.extremes_fit.ensures c.if-extremes_fit.true
+    fits-extremes _ _ _ _ _ _ _ _ (records-levels _ _ _ _ c.lanes_of-lanes.ensures) c.extremes_of-forced.ensures
+    c.extremes_of-positive.ensures c.extremes_of-negative.ensures c.extremes_fit.ensures c.if-extremes_fit.true
 
 pub returns : goal.returns
 returns c =
-    let at-extremes-of3 = c in
-    let at-extremes-of2 = at-extremes-of3.before in
-    let at-lanes-of = at-extremes-of2.before.before.before.before in
-    let lanes = records-levels _ _ _ _ at-lanes-of.lanes-of.ensures in
+    let lanes = records-levels _ _ _ _ c.lanes_of-lanes.ensures in
     fits-swept _ _ _ _ _ _ (c.sweep_lanes.ensures ∙ found-records _ _ _ _ _ _ lanes)
-    ∙ asked-enough _ _ _ _ _ _ _ _ lanes at-extremes-of2.extremes-of2.ensures at-extremes-of3.extremes-of3.ensures
+    ∙ asked-enough _ _ _ _ _ _ _ _ lanes c.extremes_of-positive.ensures c.extremes_of-negative.ensures
     c.asked_of-asked.ensures c.later-start.ensures c.earlier-end.ensures

@@ -1,4 +1,3 @@
-
 use Rattle.levels.proofs.fits_w1_m1.Goals as goal
 
 pub returns : goal.returns

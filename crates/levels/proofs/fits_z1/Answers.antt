@@ -1,4 +1,3 @@
-
 use Rattle.levels.proofs.fits_z1.Goals as goal
 
 pub returns : goal.returns

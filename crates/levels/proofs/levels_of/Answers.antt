@@ -1,4 +1,3 @@
-
 use Rattle.levels.proofs.levels_of.Goals as goal
 
 pub returns : goal.returns

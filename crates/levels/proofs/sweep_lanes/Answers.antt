@@ -12,28 +12,28 @@ loop-m-init c = (judged-none _ _ _ _ c.nothing_found-g.ensures refl, placed-none
 
 pub choose_lane-forced-requires : goal.choose_lane-forced-requires
 choose_lane-forced-requires c = record {
-      m_bound = omega arith;
-      placed = c.loop-m.invariant.1;
-    }
+  m_bound = omega arith;
+  placed = c.loop-m.invariant.1;
+}
 
 pub choose_lane-positive-requires : goal.choose_lane-positive-requires
 choose_lane-positive-requires c = record {
-      m_bound = omega arith;
-      placed = c.choose_lane-forced.ensures.placed_2;
-    }
+  m_bound = omega arith;
+  placed = c.choose_lane-forced.ensures.placed_2;
+}
 
 pub choose_lane-negative-requires : goal.choose_lane-negative-requires
 choose_lane-negative-requires c = record {
-      m_bound = omega arith;
-      placed = c.choose_lane-positive.ensures.placed_2;
-    }
+  m_bound = omega arith;
+  placed = c.choose_lane-positive.ensures.placed_2;
+}
 
 pub sweep_choices-stretch-requires : goal.sweep_choices-stretch-requires
 sweep_choices-stretch-requires c = record {
-      start_lt_end = c.loop-m-test.true;
-      ready = chosen-ready _ _ _ c.if-forced.true c.choose_lane-forced.ensures.chosen c.choose_lane-positive.ensures.chosen
+  start_lt_end = c.loop-m-test.true;
+  ready = chosen-ready _ _ _ c.if-forced.true c.choose_lane-forced.ensures.chosen c.choose_lane-positive.ensures.chosen
       c.choose_lane-negative.ensures.chosen;
-    }
+}
 
 pub loop-m-smaller-then-forced : goal.loop-m-smaller-then-forced
 loop-m-smaller-then-forced c = omega (

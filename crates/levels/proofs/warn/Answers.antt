@@ -11,8 +11,5 @@ returns-then-forced_within c = warn-none _ _ _ _ _ _ _ c.forced_within.ensures c
 pub returns : goal.returns
 unfolding swept_records pick
 returns c =
-    let at-within-limits = c in
-    let at-lanes-of = at-within-limits.before in
-    warn-narrowed _ _ _ _ _ _ _ _ (records-levels _ _ _ _ at-lanes-of.lanes-of.ensures) _
-    at-within-limits.within-limits.ensures c.asked_of-asked.ensures c.later-start.ensures
-    c.earlier-end.ensures c.sweep_lanes-g.ensures
+    warn-narrowed _ _ _ _ _ _ _ _ (records-levels _ _ _ _ c.lanes_of-lanes.ensures) _ c.within_limits.ensures
+    c.asked_of-asked.ensures c.later-start.ensures c.earlier-end.ensures c.sweep_lanes-g.ensures
