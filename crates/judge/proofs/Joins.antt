@@ -8,7 +8,6 @@ use native.Mathlib.Nat.{zero-add}
 use lib.ListN.{length, get_or, set, take, replicate, length-set}
 use lib.Dec.{ltb}
 use Rattle.fields.specs.Lists.{series, seek}
-use borrow.Author.Tests.{not-true, not-false}
 use Rattle.fields.proofs.Slices.{filled_none, filled_more, filled-all}
 use Rattle.fields.proofs.Tests.{Tested, tested-none, tested-more, tested-all, seek_hit, seek-miss, seek-end}
 use Rattle.report.specs.declared.Head.{Head}
@@ -25,27 +24,27 @@ use Rattle.judge.specs.Survey.{holder_of, slot_answers, answers_at, survey_of, f
 
 -- a slot that was read: free, or with a record
 module _ (b : List ℕ) (i : ℕ) {z : List ℕ} {u : Bool} (read : z ≡ slot_at b i) (asked : u ≡ used z) where
-  not-used : not u ≡ true → used (slot_at b i) ≡ false
-  not-used n = rw (← read) (sym asked ∙ not-true u n)
+  not-used : u ≡ false → used (slot_at b i) ≡ false
+  not-used n = rw (← read) (sym asked ∙ n)
 
-  is-used : not u ≡ false → used (slot_at b i) ≡ true
-  is-used n = rw (← read) (sym asked ∙ not-false u n)
+  is-used : u ≡ true → used (slot_at b i) ≡ true
+  is-used n = rw (← read) (sym asked ∙ n)
 
-  pub none-held : (r : Record) → not u ≡ true → false ≡ (live b r.stamp.0 i && same_identifier r (record_at b i))
+  pub none-held : (r : Record) → u ≡ false → false ≡ (live b r.stamp.0 i && same_identifier r (record_at b i))
   unfolding live
   none-held r n = rw (not-used n)
 
-  pub some-held : (r : Record) {x : Record} {t : Bool} → not u ≡ false → x ≡ record_in z → t ≡ same_identifier r x
+  pub some-held : (r : Record) {x : Record} {t : Bool} → u ≡ true → x ≡ record_in z → t ≡ same_identifier r x
       → (ltb r.stamp.0 x.period.end.0 && t) ≡ (live b r.stamp.0 i && same_identifier r (record_at b i))
   unfolding live
   some-held r n e q = rw (q, e, read, is-used n)
 
-  pub free-answers : (h : Head) (slot : ℕ) (changes : Bool) → not u ≡ true
+  pub free-answers : (h : Head) (slot : ℕ) (changes : Bool) → u ≡ false
       → record { other = false; closed = true; leaves = false; stays = false; cleared = false } ≡ answers_at b h slot changes i
   unfolding answers_at slot_answers live
   free-answers h slot changes n = rw (not-used n)
 
-  pub used-answers : (h : Head) (slot : ℕ) (changes : Bool) {x : Record} {a : SlotAnswers} → not u ≡ false → x ≡ record_in z
+  pub used-answers : (h : Head) (slot : ℕ) (changes : Bool) {x : Record} {a : SlotAnswers} → u ≡ true → x ≡ record_in z
       → a ≡ slot_answers h slot changes true (ltb h.stamp.0 x.period.end.0) x i → a ≡ answers_at b h slot changes i
   unfolding answers_at live
   used-answers h slot changes n e a = a ∙ rw (e, read, is-used n)
@@ -146,15 +145,15 @@ module _ (b : List ℕ) (h : Head) (slot : ℕ) (changes : Bool) where
 
 -- the sweep of question 17
 module _ (h : Head) (unit : UnitHead) (ws : List FullRecord) {t : Bool} (asked : t ≡ is_levelled h.record_type) where
-  pub minutes-skipped : not t ≡ true → true ≡ question17 unit.kind unit.powers ws h
+  pub minutes-skipped : t ≡ false → true ≡ question17 unit.kind unit.powers ws h
   unfolding question17
-  minutes-skipped n = rw (sym asked ∙ not-true t n)
+  minutes-skipped n = rw (sym asked ∙ n)
 
-  pub minutes-swept : {r : PowerRange} {ok : Bool} → not t ≡ false → r ≡ range_of unit.powers h.direction
+  pub minutes-swept : {r : PowerRange} {ok : Bool} → t ≡ true → r ≡ range_of unit.powers h.direction
       → ok ≡ levels_every (levels_fit unit.kind r) ws h.direction h.period.start.0 h.period.end.0
       → ok ≡ question17 unit.kind unit.powers ws h
   unfolding question17
-  minutes-swept n q p = p ∙ rw (q, sym asked ∙ not-false t n)
+  minutes-swept n q p = p ∙ rw (q, sym asked ∙ n)
 
 -- the slots that are marked are those that pass the test
 pub records-same : (b : List ℕ) (p q : ℕ → Bool) (i n : ℕ) → ((j : ℕ) → i ≤ j → j < i + n → p j ≡ q j)

@@ -7,7 +7,7 @@ use native.Mathlib.Omega.{arith}
 use native.Mathlib.Nat.{zero-add}
 use lib.Dec.{eqb}
 use lib.ListN.{get_or}
-use borrow.Author.Tests.{eq-eqb, ne_eqb, not-true, not-false}
+use borrow.Author.Tests.{eq-eqb, ne_eqb}
 use Rattle.fields.specs.Lists.{pick, all, series}
 use Rattle.fields.proofs.Tests.{series-at}
 use Rattle.quantities.specs.Quantities.{overlap}
@@ -29,12 +29,12 @@ use Rattle.judge.proofs.Joins.{records-same}
 
 -- warning 1, of a slot that was read: free, or with a record
 module _ (after : List ℕ) (r : Record) (i : ℕ) {z : List ℕ} {u : Bool} (read : z ≡ slot_at after i) (asked : u ≡ used z) where
-  pub no-overlap : not u ≡ true → false ≡ overlap_at after r i
-  no-overlap n = rw (← read, sym asked ∙ not-true u n)
+  pub no-overlap : u ≡ false → false ≡ overlap_at after r i
+  no-overlap n = rw (← read, sym asked ∙ n)
 
-  pub overlap-join : {x : Record} {o m p : Bool} → not u ≡ false → x ≡ record_in z → o ≡ one_stop_one_levelled r x
+  pub overlap-join : {x : Record} {o m p : Bool} → u ≡ true → x ≡ record_in z → o ≡ one_stop_one_levelled r x
       → m ≡ meet r.direction x.direction → p ≡ overlap r.period x.period → (o && m && p) ≡ overlap_at after r i
-  overlap-join n f b c d = rw (b, c, d, f, ← read, sym asked ∙ not-false u n)
+  overlap-join n f b c d = rw (b, c, d, f, ← read, sym asked ∙ n)
 
 pub warns-join : (after : List ℕ) (h : Head) {r : Record} {none : Bool} → r ≡ record_by h
     → none ≡ all (λ i. not (overlap_at after r i)) (series (λ i. i) 0 8) → not none ≡ warns_overlap after h

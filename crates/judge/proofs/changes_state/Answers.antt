@@ -1,4 +1,3 @@
-
 use Rattle.judge.proofs.changes_state.Goals as goal
 
 pub returns : goal.returns

@@ -1,4 +1,3 @@
-
 use Rattle.judge.proofs.may_move.Goals as goal
 
 pub returns : goal.returns

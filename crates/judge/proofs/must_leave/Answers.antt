@@ -1,4 +1,3 @@
-
 use Rattle.judge.proofs.must_leave.Goals as goal
 
 pub returns : goal.returns

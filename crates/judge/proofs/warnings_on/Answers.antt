@@ -8,7 +8,6 @@ returns-then-h-vacates_slot c = no-warnings _ _ _ c.vacates_slot.ensures c.if-h-
 
 pub returns : goal.returns
 returns c =
-    let at-if = c in
-    all-warnings _ _ _ at-if.before.vacates-slot.ensures at-if.if1.false
+    all-warnings _ _ _ c.vacates_slot.ensures c.if-h-vacates_slot.false
     (c.worth_of-overlap.ensures.0 ∙ ap (worth 1) c.warns_overlap.ensures)
     c.worth_of-left_by_stop.ensures.0 c.minute_warnings.ensures.0
