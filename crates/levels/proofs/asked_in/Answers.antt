@@ -1,5 +1,4 @@
 use native.Mathlib.Omega.{arith}
-use Prim.Native.Nat.{◌-◌}
 use Rattle.levels.proofs.Asked.{asked-none, asked-more, asked-all}
 use Rattle.levels.proofs.asked_in.Goals as goal
 

@@ -1,4 +1,3 @@
-use Prim.Native.Nat.{◌-◌}
 use Rattle.levels.proofs.Spans.{sooner}
 use Rattle.levels.proofs.Choosing.{looked-none, looked-past, looked-miss, looked-hit, looked-all, placed_at, placed-set}
 use Rattle.levels.proofs.choose_lane.Goals as goal

@@ -1,5 +1,4 @@
 use native.Mathlib.Omega.{arith}
-use Prim.Native.Nat.{◌-◌}
 use Rattle.levels.proofs.Bounds.{wider-none, wider-more, wider-all}
 use Rattle.levels.proofs.extremes_in.Goals as goal
 

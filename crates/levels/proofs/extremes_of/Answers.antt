@@ -1,4 +1,3 @@
-use Prim.Native.Nat.{◌-◌}
 use Rattle.levels.proofs.Bounds.{extremes-none, extremes-more, extremes-past, extremes-all}
 use Rattle.levels.proofs.extremes_of.Goals as goal
 

@@ -1,5 +1,3 @@
-use Prim.Native.Nat.{◌-◌}
-use mathlib.Core.Bool.{false}
 use native.Mathlib.Omega.{arith}
 use Rattle.fields.proofs.Tests.{tested-none, tested-more, tested-all}
 use Rattle.levels.specs.Within.{forced_within}

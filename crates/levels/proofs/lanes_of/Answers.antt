@@ -1,4 +1,3 @@
-use Prim.Native.Nat.{◌-◌}
 use Rattle.levels.proofs.Choosing.{filled-start, filled_next, filled-end}
 use Rattle.levels.proofs.lanes_of.Goals as goal
 

@@ -1,4 +1,3 @@
-use Prim.Native.Nat.{◌-◌}
 use native.Mathlib.Omega.{arith}
 use Rattle.fields.proofs.Tests.{tested-none}
 use Rattle.levels.proofs.Within.{pair-tested, pairs-tested}

@@ -1,4 +1,3 @@
-use Prim.Native.Nat.{◌-◌}
 use native.Mathlib.Omega.{arith}
 use Rattle.levels.proofs.Parts.{passed-more, stepped-hit, stepped-all}
 use Rattle.levels.proofs.step_among.Goals as goal

@@ -1,4 +1,3 @@
-use Prim.Native.Nat.{◌-◌}
 use mathlib.Core.Path.{refl}
 use Rattle.levels.proofs.Stretches.{along-none, along-ends, along-stops, along-turn, forced-place, positive-place, negative-place}
 use Rattle.levels.proofs.sweep_chosen.Goals as goal

@@ -1,5 +1,4 @@
 use native.Mathlib.Omega.{arith}
-use Prim.Native.Nat.{◌-◌}
 use mathlib.Core.Path.{refl}
 use Rattle.levels.proofs.Spans.{sooner}
 use Rattle.levels.proofs.Choosing.{placed-none, placed-later}
