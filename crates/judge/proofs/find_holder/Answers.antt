@@ -1,4 +1,3 @@
-use Prim.Native.Nat.{◌-◌}
 use mathlib.Core.Path.{sym, ◌∙◌}
 use Rattle.judge.proofs.Joins.{sought-none, sought-hit, sought-miss, sought-all, found-holder}
 use Rattle.judge.proofs.find_holder.Goals as goal

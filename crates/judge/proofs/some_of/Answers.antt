@@ -1,6 +1,5 @@
-use Prim.Native.Nat.{◌-◌}
 use mathlib.Core.Path.{refl, ap}
-use mathlib.Core.Bool.{false, not}
+use mathlib.Core.Bool.{not}
 use Rattle.fields.proofs.Tests.{tested-none, tested-more, tested-all}
 use Rattle.rules.specs.After.{some_slot}
 use Rattle.judge.proofs.some_of.Goals as goal

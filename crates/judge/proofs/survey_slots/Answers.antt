@@ -1,4 +1,3 @@
-use Prim.Native.Nat.{◌-◌}
 use Rattle.judge.proofs.Joins.{surveyed-none, surveyed-more, surveyed-all}
 use Rattle.judge.proofs.survey_slots.Goals as goal
 
