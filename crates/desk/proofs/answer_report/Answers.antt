@@ -49,5 +49,5 @@ returns c =
     let k = inside _ _ u c.is_addressed.ensures c.if-not-is_addressed.false in
     let said = judged-there _ _ c.register_whole.ensures c.if-not-register_whole.false c.is_whole.ensures c.if-not-is_whole.false
     c.is_addressed.ensures c.if-not-is_addressed.false (answered-there _ _ u c.judge_block.ensures.value)
-    (left_there _ _ u k c.judge_block.auto.0 c.judge_block.ensures.b_after) in
+    (left_there _ _ u k c.judge_block.auto.b c.judge_block.ensures.b_after) in
     record { value = said.0; register_after = said.1 }
