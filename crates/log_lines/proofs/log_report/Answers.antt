@@ -6,11 +6,11 @@ pub returns : goal.returns
 returns c =
     let args = c.args in
     let said = c.answer_report-a.ensures in
-    let step = logged log_line args.so_far args.report.now _ _ said.0 c.progress_after-progress.ensures
-    c.put_line-length.ensures.value c.logged_at.ensures in
+    let step = logged log_line args.so_far args.report.now _ _ said.value c.progress_after-progress.ensures
+    (c.put_line-length.ensures.value, c.put_line-length.ensures.text_after) c.logged_at.ensures in
     record {
       length_bound = rw c.logged_at.ensures c.put_line-length.ensures.upper_bound;
       value = step.0;
       text_after = step.1;
-      register_after = said.1;
+      register_after = said.register_after;
     }

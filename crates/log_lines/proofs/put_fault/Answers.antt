@@ -4,4 +4,5 @@ use Rattle.log_lines.proofs.put_fault.Goals as goal
 
 pub returns : goal.returns
 returns c =
-    (omega arith, fault-put _ _ _ _ _ _ _ _ c.put_text-number_at.ensures c.put_decimal-end.ensures.value c.put_text.ensures)
+    let said = fault-put _ _ _ _ _ _ _ _ (c.put_text-number_at.ensures.value, c.put_text-number_at.ensures.text_after) (c.put_decimal-end.ensures.value, c.put_decimal-end.ensures.text_after) (c.put_text.ensures.value, c.put_text.ensures.text_after) in
+    record { upper_bound = omega arith; value = said.0; text_after = said.1 }

@@ -4,4 +4,5 @@ use Rattle.log_lines.proofs.put_line.Goals as goal
 
 pub returns : goal.returns
 returns c =
-    (omega arith, line-then _ _ _ _ _ _ _ c.put_line_text-end.ensures.value c.put_text.ensures)
+    let said = line-then _ _ _ _ _ _ _ (c.put_line_text-end.ensures.value, c.put_line_text-end.ensures.text_after) (c.put_text.ensures.value, c.put_text.ensures.text_after) in
+    record { upper_bound = omega arith; value = said.0; text_after = said.1 }

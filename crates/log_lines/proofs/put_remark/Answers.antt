@@ -9,12 +9,10 @@ use Rattle.log_lines.proofs.put_remark.Goals as goal
 pub put_shown-requires : goal.put_shown-requires
 put_shown-requires c =
     let report = c.args.report.now in
-    (omega arith, omega (arith, ap length c.remark-remark.ensures.bytes.0, remark-short report standing_remark (omega arith)))
+    (omega arith, omega (arith, ap length c.remark-remark.ensures.bytes, remark-short report standing_remark (omega arith)))
 
 pub returns : goal.returns
 returns c =
-    (
-      omega arith,
-      put_then _ _ _ _ _ _ _ _ c.put_text-remark_at.ensures
-          (put_same _ _ _ _ (ap shown c.remark-remark.ensures.bytes.0) c.put_shown.ensures.value),
-    )
+    let said = put_then _ _ _ _ _ _ _ _ (c.put_text-remark_at.ensures.value, c.put_text-remark_at.ensures.text_after)
+          (put_same _ _ _ _ (ap shown c.remark-remark.ensures.bytes) (c.put_shown.ensures.value, c.put_shown.ensures.text_after)) in
+    record { upper_bound = omega arith; value = said.0; text_after = said.1 }

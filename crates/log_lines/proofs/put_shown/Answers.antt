@@ -16,7 +16,7 @@ loop-j-preserved c =
       omega arith,
       omega arith,
       shown-more _ _ _ bytes _ _ _ c.loop-j.j _ (omega arith) refl c.loop-j.invariant.2
-          c.put_shown_byte-end.ensures.value,
+          (c.put_shown_byte-end.ensures.value, c.put_shown_byte-end.ensures.text_after),
       omega arith,
     )
 
@@ -24,4 +24,5 @@ pub returns : goal.returns
 returns c =
     let bytes = c.args.bytes.now in
     let all : c.loop-j.j ≡ length bytes = omega arith in
-    (omega arith, rw (all, take-length bytes) at c.loop-j.invariant.2)
+    let said = rw (all, take-length bytes) at c.loop-j.invariant.2 in
+    record { upper_bound = omega arith; value = said.0; text_after = said.1 }
