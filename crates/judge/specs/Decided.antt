@@ -5,7 +5,7 @@ use Rattle.report.specs.declared.Head.{Head}
 use Rattle.report.specs.Report.{head_of, parts_of}
 use Rattle.rules.specs.declared.UnitHead.{UnitHead}
 use Rattle.rules.specs.Block.{slot_count}
-use Rattle.rules.specs.Questions.{creation_head, changes_state, leaves, stays, question18, question19}
+use Rattle.rules.specs.Questions.{creation_head, changes_state, leaves, question18, question19}
 use Rattle.rules.specs.Minutes.{question17}
 use Rattle.rules.specs.After.{rewrites, slot_written, cleared, some_slot}
 use Rattle.rules.specs.Judge.{part_beside, limit_number, refusal_number}
