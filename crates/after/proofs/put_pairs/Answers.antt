@@ -1,7 +1,6 @@
 use mathlib.Core.Path.{refl}
 use mathlib.Core.Path.{◌≡◌}
 use native.Mathlib.Omega.{arith}
-use Prim.Native.Nat.{◌-◌}
 use Rattle.fields.specs.Lists.{series, put}
 use Rattle.rules.specs.After.{pair_bytes}
 use Rattle.after.proofs.Written.{pairs_next}

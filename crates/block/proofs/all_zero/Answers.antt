@@ -1,4 +1,3 @@
-use Prim.Native.Nat.{◌-◌}
 use native.Mathlib.Omega.{arith}
 use Rattle.block.proofs.ZeroStretches.{zeros-none, zeros-then, zeros-last}
 use Rattle.block.proofs.all_zero.Goals as goal

@@ -1,9 +1,9 @@
-use Prim.Native.Nat.{ℕ, ◌-◌}
+use Prim.Native.Nat.{ℕ}
 use mathlib.Core.Path.{ap, ◌∙◌}
 use mathlib.Core.List.{List}
 use mathlib.Core.Bool.{not, ◌||◌}
 use native.Mathlib.Omega.{arith}
-use Rattle.rules.specs.Block.{slot_at, used, record_in}
+use Rattle.rules.specs.Block.{used, record_in}
 use Rattle.rules.specs.Whole.{records_apart}
 use Rattle.fields.proofs.Tests.{tested-none, tested-more, tested-all}
 use Rattle.block.proofs.apart_below.Goals as goal

@@ -1,4 +1,3 @@
-use Prim.Native.Nat.{◌-◌}
 use native.Mathlib.Omega.{arith}
 use Rattle.rules.specs.Whole.{block_whole}
 use Rattle.fields.proofs.Tests.{tested-none}

@@ -1,4 +1,3 @@
-use Prim.Native.Nat.{◌-◌}
 use Rattle.block.proofs.FreeSlots.{searched-none, searched-used, searched-free, searched-all}
 use Rattle.block.proofs.free_from.Goals as goal
 

@@ -1,5 +1,4 @@
 use native.Mathlib.Omega.{arith}
-use Prim.Native.Nat.{◌-◌}
 use Rattle.block.proofs.Pairs.{risen-none, risen-more, risen-all}
 use Rattle.block.proofs.pairs_rise.Goals as goal
 

@@ -1,7 +1,6 @@
 use mathlib.Core.Path.{◌≡◌, refl, ap, ◌∙◌}
 use native.Mathlib.Omega.{arith}
 use lib.Seq.{take_all}
-use Prim.Native.Nat.{◌-◌}
 use borrow.Author.Rules.{rules}
 use Rattle.fields.specs.Lists.{put}
 use Rattle.block.proofs.Written.{bytes_next}

@@ -1,4 +1,3 @@
-use Prim.Native.Nat.{◌-◌}
 use native.Mathlib.Omega.{arith}
 use Rattle.fields.proofs.Tests.{tested-none, tested-more, tested-all}
 use Rattle.block.proofs.slots_apart.Goals as goal

@@ -1,8 +1,5 @@
-use mathlib.Core.Bool.{true}
-use Prim.Native.Nat.{◌-◌}
 use mathlib.Core.Path.{ap, ◌∙◌}
 use native.Mathlib.Omega.{arith}
-use Rattle.rules.specs.Block.{slot_at}
 use Rattle.rules.specs.Whole.{slot_whole}
 use Rattle.fields.proofs.Tests.{tested-none, tested-all}
 use Rattle.block.proofs.FreeSlots.{slots-through}
