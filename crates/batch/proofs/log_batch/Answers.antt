@@ -1,4 +1,3 @@
-
 use Rattle.batch.proofs.log_batch.Goals as goal
 
 pub returns : goal.returns
