@@ -4,8 +4,9 @@
 
 ghost use Rattle.std.specs.Prelude.{◌≡◌, length};
 
-use libc::{STDIN_FILENO, STDOUT_FILENO};
 use quantities::Minute;
+use std::io;
+use std::io::{Eprint, Print, Read};
 
 // What was read of a line: its length, counted to 17, and its number, counted no further than past the last minute, if it is one;
 // and whether a write has failed.
@@ -17,14 +18,19 @@ struct Line {
     failed: bool,
 }
 
-fn main() {
+fn main(rt: HostRuntime) {
     let mut text = [0u8; 16];
-    let mut window = io::buffer();
-    answer_input(&mut window, &mut text);
+    let mut window = [0u8; 4096];
+    answer_input(&rt, &mut rt.stdin(), &mut window, &mut text);
 }
 
 // A proved loop has to end, so it counts the turns that are left, more than any input needs. After a failure nothing is answered.
-fn answer_input(window: &mut [u8], text: &mut [u8])
+fn answer_input<R: Print + Eprint + Alloc, I: Read>(
+    rt: &R,
+    from: &mut I,
+    window: &mut [u8],
+    text: &mut [u8],
+)
     requires { length text.old ≡ 16 }
 {
     let mut line = at_start(false);
@@ -32,17 +38,17 @@ fn answer_input(window: &mut [u8], text: &mut [u8])
     let mut turns = u64::MAX;
     while turns > 0 && !ended {
         turns -= 1;
-        let input = streams::read_once(STDIN_FILENO, window, turns == 0);
-        if input.failed {
-            os::fail(b"typed_dates: standard input can't be read");
+        let input = streams::read_once(from, window, turns == 0);
+        if let Some(error) = input.failed {
+            streams::fail(rt, "typed_dates: standard input can't be read", &error);
             return;
         }
         let got = input.length;
-        line = answer_lines(&window[..got], line, text);
+        line = answer_lines(rt, &window[..got], line, text);
         ended = input.ended | line.failed;
     }
     if (line.length > 0) & !line.failed {
-        answer(line, text);
+        answer(rt, line, text);
     }
 }
 
@@ -58,25 +64,30 @@ fn at_start(failed: bool) -> Line
 }
 
 // Answers the lines that end in these bytes; the line that is left.
-fn answer_lines(bytes: &[u8], before: Line, text: &mut [u8]) -> Line
+fn answer_lines<R: Print + Eprint + Alloc>(
+    rt: &R,
+    bytes: &[u8],
+    before: Line,
+    text: &mut [u8],
+) -> Line
     requires { length text.old ≡ 16 }
 {
     let mut line = before;
     for j in 0..bytes.len() {
-        line = with_byte(line, bytes[j], text);
+        line = with_byte(rt, line, bytes[j], text);
     }
     line
 }
 
 // A line feed has the line answered; every other byte is one more of it. After a failed write nothing is.
-fn with_byte(line: Line, c: u8, text: &mut [u8]) -> Line
+fn with_byte<R: Print + Eprint + Alloc>(rt: &R, line: Line, c: u8, text: &mut [u8]) -> Line
     requires { length text.old ≡ 16 }
 {
     if line.failed {
         return line;
     }
     if c == b'\n' {
-        return at_start(!answer(line, text));
+        return at_start(!answer(rt, line, text));
     }
     fields::put_u8(text, line.length, c);
     longer(line, c)
@@ -108,48 +119,47 @@ fn with_digit(number: u32, c: u8) -> u32 {
     10 * number + ((c - 48) as u32)
 }
 
-fn answer(line: Line, text: &[u8]) -> bool
+fn answer<R: Print + Eprint + Alloc>(rt: &R, line: Line, text: &[u8]) -> bool
     requires { length text.now ≡ 16 }
 {
     if line.is_number {
-        return print_date(line.number);
+        return print_date(rt, line.number);
     }
     if line.length > 16 {
-        return print(b"refused 23\n");
+        return print(rt, b"refused 23\n");
     }
-    print_minute(&text[..line.length])
+    print_minute(rt, &text[..line.length])
 }
 
-fn print_date(minute: u32) -> bool {
+fn print_date<R: Print + Eprint + Alloc>(rt: &R, minute: u32) -> bool {
     let mut date = *b"................\n";
     if calendar::put_date(Minute(minute), &mut date) == 0 {
-        print(&date)
+        print(rt, &date)
     } else {
-        print(b"refused 22\n")
+        print(rt, b"refused 22\n")
     }
 }
 
-fn print_minute(text: &[u8]) -> bool {
+fn print_minute<R: Print + Eprint + Alloc>(rt: &R, text: &[u8]) -> bool {
     let read = calendar::read_date(text);
     if read.number != 0 {
-        return print(b"refused 23\n");
+        return print(rt, b"refused 23\n");
     }
-    if io::print_decimal(STDOUT_FILENO, read.minute.0 as u64) {
-        return print(b"\n");
+    match rt.println(read.minute.0) {
+        Ok(()) => true,
+        Err(error) => say_unwritten(rt, &error),
     }
-    say_unwritten();
-    false
 }
 
 // A write that fails is said.
-fn print(text: &[u8]) -> bool {
-    if io::write_all(STDOUT_FILENO, text) {
-        return true;
+fn print<R: Print + Eprint + Alloc>(rt: &R, text: &[u8]) -> bool {
+    match rt.write_all(text) {
+        Ok(()) => true,
+        Err(error) => say_unwritten(rt, &error),
     }
-    say_unwritten();
-    false
 }
 
-fn say_unwritten() {
-    os::fail(b"typed_dates: standard output can't be written");
+fn say_unwritten<R: Eprint + Alloc>(rt: &R, error: &io::Error) -> bool {
+    streams::fail(rt, "typed_dates: standard output can't be written", error);
+    false
 }
