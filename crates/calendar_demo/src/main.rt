@@ -5,45 +5,48 @@
 mod typed;
 
 use quantities::Minute;
+use std::io;
+use std::io::Print;
 
-fn main() {
-    print_month_bounds();
-    print_between();
-    print_line(26298720);
-    typed::print_cases();
+fn main(rt: HostRuntime) -> io::Result<()> {
+    print_month_bounds(&rt)?;
+    print_between(&rt)?;
+    print_line(&rt, 26298720)?;
+    typed::print_cases(&rt)
 }
 
-fn print_month_bounds() {
-    print_line(0);
+fn print_month_bounds(rt: &impl Print) -> io::Result<()> {
+    print_line(rt, 0)?;
     let mut day: u32 = 1;
     while day < 18263 {
         let date = calendar::date_of(Minute(day * 1440));
         if date.day == 1 {
-            print_line(day * 1440 - 1);
-            print_line(day * 1440);
+            print_line(rt, day * 1440 - 1)?;
+            print_line(rt, day * 1440)?;
         }
         day += 1;
     }
-    print_line(26298719);
+    print_line(rt, 26298719)
 }
 
-fn print_between() {
+fn print_between(rt: &impl Print) -> io::Result<()> {
     let mut minute: u32 = 12345;
     while minute < 26298720 {
-        print_line(minute);
+        print_line(rt, minute)?;
         minute += 77777;
     }
+    Ok(())
 }
 
-fn print_line(minute: u32) {
+fn print_line(rt: &impl Print, minute: u32) -> io::Result<()> {
     let mut text = [0u8; 16];
     let answer = calendar::print_date(Minute(minute), &mut text);
-    io::print_decimal(1, minute as u64);
-    io::write_all(1, &[b' ']);
+    rt.print(minute)?;
+    rt.write_all(b" ")?;
     if answer == 0 {
-        io::write_all(1, &text);
+        rt.write_all(&text)?;
     } else {
-        io::print_decimal(1, answer as u64);
+        rt.print(answer)?;
     }
-    io::write_all(1, &[b'\n']);
+    rt.write_all(b"\n")
 }
