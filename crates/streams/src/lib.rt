@@ -1,8 +1,9 @@
-// Reading, so that an end and a failure are told apart.
+// Reading, so that an end and a failure are told apart; the line of a failure; which arguments there are.
 #![tactic(auto)]
 
 ghost use Rattle.std.specs.Prelude.{◌≤◌, length};
 
+use std::env::{Env, FillError};
 use std::io;
 use std::io::{Eprint, ErrorKind, Read};
 
@@ -79,5 +80,13 @@ fn without_number(why: &str) -> &str {
     match why.split_once(" (os error ") {
         Some((text, _)) => text,
         None => why,
+    }
+}
+
+// Whether there is an argument of that number, from 1.
+pub fn has_arg<R: Env>(rt: &R, number: usize) -> bool {
+    match rt.arg(number, &mut []) {
+        Err(FillError::NotPresent) => false,
+        _ => true,
     }
 }
