@@ -1,76 +1,84 @@
 // The register's file, read whole and replaced as a whole: a new file beside it, on disk before it takes the name. So whoever opens the
 // register, at any time and after any crash, finds it as it was before some report or after it.
-ghost use Rattle.std.specs.Prelude.{◌≡◌, ◌≤◌, length};
-ghost use Rattle.libc.specs.Io.{Ended};
+ghost use Rattle.std.specs.Prelude.{◌≡◌, ◌++◌, ◌≤◌, length, codes, IfOk, string_bytes};
+ghost use Rattle.std.specs.Str.{IsCharBoundary};
 
-use libc::STDERR_FILENO;
+use std::fs::{File, OpenFile, OpenOptions};
+use std::io::{Eprint, Seek, Write};
+use std::rt::Files;
+use std::{fs, io};
 use streams::Input;
 
-pub(crate) fn say(line: &[u8]) {
-    io::write_all(STDERR_FILENO, line);
+pub(crate) fn say<R: Eprint>(rt: &R, line: &str) {
+    let _ = rt.eprintln(line);
 }
 
 // No file has the name; what stands in the way is said.
-pub(crate) fn is_free(path: &[u8; 4096]) -> bool
-    requires { Ended path.now }
-{
-    if libc::access(path, libc::F_OK) == 0 {
-        say(b"register_file: there is a file of that name, and it stays as it is\n");
-        return false;
+pub(crate) fn is_free<R: Files + Eprint + Alloc>(rt: &R, path: &str) -> bool {
+    match fs::exists(rt, path) {
+        Ok(false) => true,
+        Ok(true) => {
+            say(
+                rt,
+                "register_file: there is a file of that name, and it stays as it is",
+            );
+            false
+        }
+        Err(error) => {
+            streams::fail(rt, "register_file: the register can't be made", &error);
+            false
+        }
     }
-    if os::errno() != libc::ENOENT {
-        os::fail(b"register_file: the register can't be made");
-        return false;
-    }
-    true
 }
 
-fn failed() -> Input
+fn failed(error: io::Error) -> Input
     ensures { result.length ≡ 0 }
 {
     Input {
         length: 0,
         ended: false,
-        failed: true,
+        failed: Some(error),
     }
 }
 
 // The bytes of the file, as far as the register holds them; a failure is said. It is opened to be written as well, so that one that is
 // write-protected stays as it is, and a pipe does not wait.
-pub(crate) fn read_register(path: &[u8], register: &mut [u8]) -> Input
+pub(crate) fn read_register<R: Files + Eprint + Alloc>(
+    rt: &R,
+    path: &str,
+    register: &mut [u8],
+) -> Input
     ensures { result.length ≤ length register.old }
 {
-    let fd = os::open_update(path);
-    if fd < 0 {
-        os::fail(b"register_file: the register can't be opened");
-        return failed();
+    let mut file = match OpenOptions::new().read(true).write(true).open(rt, path) {
+        Ok(file) => file,
+        Err(error) => {
+            streams::fail(rt, "register_file: the register can't be opened", &error);
+            return failed(error);
+        }
+    };
+    if let Err(error) = file.stream_position() {
+        streams::fail(
+            rt,
+            "register_file: the register is not a plain file",
+            &error,
+        );
+        return failed(error);
     }
-    if libc::lseek(fd, 0, libc::SEEK_CUR) < 0 {
-        os::fail(b"register_file: the register is not a plain file");
-        return failed();
+    let input = streams::read_full(&mut file, register);
+    if let Some(error) = input.failed {
+        streams::fail(rt, "register_file: the register can't be read", &error);
     }
-    let input = streams::read_full(fd, register);
-    if input.failed {
-        os::fail(b"register_file: the register can't be read");
-    }
-    libc::close(fd);
     input
 }
 
-// The path with ".new" after it; its length.
-fn put_new_path(path: &[u8], made: &mut [u8]) -> usize
-    requires { (length path.now ≤ 4091) × (length made.old ≡ 4096) }
-    ensures { result ≤ 4095 }
+// The path with ".new" after it.
+fn new_path<R: Alloc>(rt: &R, path: &str) -> io::Result<String<R::A>>
+    requires { length path.now ≤ 4091 }
+    ensures bound { IfOk result (λ made. length (string_bytes made) ≤ 4095) }
+    ensures text { IfOk result (λ made. string_bytes made ≡ path.now ++ codes ".new") }
 {
-    let end = path.len();
-    for i in 0..end {
-        made[i] = path[i];
-    }
-    made[end] = b'.';
-    made[end + 1] = b'n';
-    made[end + 2] = b'e';
-    made[end + 3] = b'w';
-    end + 4
+    Ok(format!(in rt.alloc(); "{path}.new")?)
 }
 
 fn past_slash(byte: u8, next: usize, start: usize) -> usize
@@ -81,75 +89,107 @@ fn past_slash(byte: u8, next: usize, start: usize) -> usize
 }
 
 // Where the file's name begins in its path: after the last slash.
-fn name_start(path: &[u8]) -> usize
-    ensures { result ≤ length path.now }
+fn name_start(path: &str) -> usize
+    ensures { IsCharBoundary path.now result }
 {
+    let bytes = path.as_bytes();
     let mut start = 0;
-    for i in 0..path.len() {
-        start = past_slash(path[i], i + 1, start);
+    for i in 0..bytes.len() {
+        start = past_slash(bytes[i], i + 1, start);
     }
     start
 }
 
 // On disk when it answers true.
-fn write_new(fd: i32, register: &[u8]) -> bool {
-    if !io::write_all(fd, register) {
-        os::fail(b"register_file: the new register can't be written");
+fn write_new<R: Eprint + Alloc, F: Write + OpenFile>(
+    rt: &R,
+    file: &mut F,
+    register: &[u8],
+) -> bool {
+    if let Err(error) = file.write_all(register) {
+        streams::fail(
+            rt,
+            "register_file: the new register can't be written",
+            &error,
+        );
         return false;
     }
-    if libc::fsync(fd) != 0 {
-        os::fail(b"register_file: the new register can't be synced");
+    if let Err(error) = file.sync_all() {
+        streams::fail(
+            rt,
+            "register_file: the new register can't be synced",
+            &error,
+        );
         return false;
     }
     true
 }
 
-fn make_new(made: &[u8], register: &[u8]) -> bool {
-    os::unlink(made);
-    let fd = os::create(made);
-    if fd < 0 {
-        os::fail(b"register_file: the new register can't be made");
-        return false;
+fn make_new<R: Files + Eprint + Alloc>(rt: &R, made: &str, register: &[u8]) -> bool {
+    let _ = fs::remove_file(rt, made);
+    match OpenOptions::new()
+        .write(true)
+        .create_new(true)
+        .open(rt, made)
+    {
+        Ok(mut file) => write_new(rt, &mut file, register),
+        Err(error) => {
+            streams::fail(rt, "register_file: the new register can't be made", &error);
+            false
+        }
     }
-    let written = write_new(fd, register);
-    libc::close(fd);
-    written
 }
 
 // The new name is on disk when it answers true.
-fn sync_folder(path: &[u8]) -> bool {
+fn sync_folder<R: Files + Eprint + Alloc>(rt: &R, path: &str) -> bool {
     let start = name_start(path);
-    let fd = if start == 0 {
-        os::open_read(b".")
-    } else {
-        os::open_read(&path[..start])
+    let folder = if start == 0 { "." } else { &path[..start] };
+    let file = match File::open(rt, folder) {
+        Ok(file) => file,
+        Err(error) => {
+            streams::fail(
+                rt,
+                "register_file: the register's folder can't be opened",
+                &error,
+            );
+            return false;
+        }
     };
-    if fd < 0 {
-        os::fail(b"register_file: the register's folder can't be opened");
+    if let Err(error) = file.sync_all() {
+        streams::fail(
+            rt,
+            "register_file: the register's folder can't be synced",
+            &error,
+        );
         return false;
     }
-    let synced = libc::fsync(fd) == 0;
-    if !synced {
-        os::fail(b"register_file: the register's folder can't be synced");
-    }
-    libc::close(fd);
-    synced
+    true
 }
 
 // The register takes the old one's place, or the old one stays and why is said.
-pub(crate) fn write_register(path: &[u8], register: &[u8]) -> bool
+pub(crate) fn write_register<R: Files + Eprint + Alloc>(rt: &R, path: &str, register: &[u8]) -> bool
     requires { length path.now ≤ 4091 }
 {
-    let mut made = io::buffer();
-    let end = put_new_path(path, &mut made);
-    if !make_new(&made[..end], register) {
-        os::unlink(&made[..end]);
+    let made = match new_path(rt, path) {
+        Ok(made) => made,
+        Err(error) => {
+            streams::fail(rt, "register_file: the new register can't be made", &error);
+            return false;
+        }
+    };
+    let made = made.as_str();
+    if !make_new(rt, made, register) {
+        let _ = fs::remove_file(rt, made);
         return false;
     }
-    if os::rename(&made[..end], path) != 0 {
-        os::fail(b"register_file: the new register can't take the old one's place");
-        os::unlink(&made[..end]);
+    if let Err(error) = fs::rename(rt, made, path) {
+        streams::fail(
+            rt,
+            "register_file: the new register can't take the old one's place",
+            &error,
+        );
+        let _ = fs::remove_file(rt, made);
         return false;
     }
-    sync_folder(path)
+    sync_folder(rt, path)
 }
