@@ -1,6 +1,6 @@
 // The register's file, read whole and replaced as a whole: a new file beside it, on disk before it takes the name. So whoever opens the
 // register, at any time and after any crash, finds it as it was before some report or after it.
-ghost use Rattle.std.specs.Prelude.{◌≡◌, ◌++◌, ◌≤◌, length, codes, IfOk, string_bytes};
+ghost use Rattle.std.specs.Prelude.{◌≡◌, ◌≢◌, ◌++◌, ◌≤◌, length, codes, IfOk, string_bytes};
 ghost use Rattle.std.specs.Str.{IsCharBoundary};
 
 use std::fs::{File, OpenFile, OpenOptions};
@@ -83,7 +83,8 @@ fn new_path<R: Alloc>(rt: &R, path: &str) -> io::Result<String<R::A>>
 
 fn past_slash(byte: u8, next: usize, start: usize) -> usize
     requires { start ≤ next }
-    ensures { result ≤ next }
+    ensures bound { result ≤ next }
+    ensures value { (byte ≡ 47 → result ≡ next) × (byte ≢ 47 → result ≡ start) }
 {
     if byte == b'/' { next } else { start }
 }
