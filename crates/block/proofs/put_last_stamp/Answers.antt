@@ -1,12 +1,6 @@
 use Rattle.block.specs.Codec.{put_last_stamp}
 use Rattle.block.proofs.put_last_stamp.Goals as goal
 
--- src/lib.rt:520:5
-
--- src/lib.rt:517:1
-
--- src/lib.rt:517:1
-
 pub returns : goal.returns
 unfolding put_last_stamp
 returns c = c.put_minute.ensures

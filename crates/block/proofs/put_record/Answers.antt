@@ -2,16 +2,6 @@ use mathlib.Core.Path.{refl}
 use Rattle.block.specs.Codec.{put_record}
 use Rattle.block.proofs.put_record.Goals as goal
 
--- src/lib.rt:575:5
-
--- src/lib.rt:576:5
-
--- src/lib.rt:577:5
-
--- src/lib.rt:571:1
-
--- src/lib.rt:571:1
-
 pub returns : goal.returns
 unfolding put_record
 returns c = rw (c.put_times.ensures, c.put_identifier.ensures, c.put_codes.ensures) refl
