@@ -108,12 +108,7 @@ pub fn desk_answer(register: &mut [u8], report: &[u8]) -> u32
 }
 
 // The C interface: the remark's number, and 256 where it is the standing text; where it begins, and its length.
-pub fn desk_remark(
-    report: &[u8],
-    standing: &[u8],
-    place: &mut u64,
-    length: &mut u64,
-) -> u32
+pub fn desk_remark(report: &[u8], standing: &[u8], place: &mut u64, length: &mut u64) -> u32
     ensures value { result ≡ packed_remark (remark_in report.now standing.now) }
     ensures place_after { place.new ≡ (remark_in report.now standing.now).start }
     ensures length_after { length.new ≡ (remark_in report.now standing.now).length }

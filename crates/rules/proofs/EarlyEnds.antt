@@ -13,10 +13,10 @@ use Rattle.fields.specs.Fields.{bytes_of}
 use Rattle.fields.proofs.Bools.{and_left, and_right, pick-elim, range-true, every_true, every-intro, both_ways}
 use Rattle.fields.proofs.Slices.{part-before, part-put}
 use Rattle.report.specs.Report.{head_of, parts_of, whole}
-use Rattle.rules.specs.Codes.{stop, off_grid, change, create, is_levelled, planned, executed}
+use Rattle.rules.specs.Codes.{stop, off_grid, change, is_levelled, planned, executed}
 use Rattle.rules.specs.Records.{cover_by, begun, same_identifier, closes}
 use Rattle.rules.specs.Roster.{pieces}
-use Rattle.rules.specs.Block.{head_size, slot_size, slot_count, block_size, zeros, unit_head, slot_at, used}
+use Rattle.rules.specs.Block.{head_size, slot_size, slot_count, block_size, zeros, slot_at, used}
 use Rattle.rules.specs.Whole.{block_whole, register_whole}
 use Rattle.rules.specs.Questions.{record_of, ends_early, is_event, is_withdrawal, is_operation, stamp_of, record_at, live, holder, held_record, changes_state, leaves, stays, early_end_times, start_of, question4, question6, question8}
 use Rattle.rules.specs.After.{slot_written, slot_after, head_after, block_after, warnings}

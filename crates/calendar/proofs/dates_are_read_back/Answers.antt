@@ -3,9 +3,9 @@ use Rattle.calendar.proofs.dates_are_read_back.Goals as goal
 
 pub returns : goal.returns
 returns c = record {
-      text = text-printed;
-      minute = minute-back;
-      apart = prints-apart;
-      refused = refused;
-      only = refused-only;
-    }
+  text = text-printed;
+  minute = minute-back;
+  apart = prints-apart;
+  refused = refused;
+  only = refused-only;
+}

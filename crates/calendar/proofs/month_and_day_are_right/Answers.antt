@@ -3,6 +3,6 @@ use Rattle.calendar.proofs.month_and_day_are_right.Goals as goal
 
 pub returns : goal.returns
 returns c = record {
-      right = date-right;
-      only = date-only;
-    }
+  right = date-right;
+  only = date-only;
+}

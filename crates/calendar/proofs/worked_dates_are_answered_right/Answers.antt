@@ -3,7 +3,7 @@ use Rattle.calendar.proofs.worked_dates_are_answered_right.Goals as goal
 
 pub returns : goal.returns
 returns c = record {
-      read = dates-read;
-      refused = texts-refused;
-      room = room-is-asked;
-    }
+  read = dates-read;
+  refused = texts-refused;
+  room = room-is-asked;
+}

@@ -1,9 +1,7 @@
 use native.Mathlib.Nat.{zero-add}
-use Prim.Native.Nat.{◌-◌}
 use mathlib.Core.Path.{◌≡◌}
 use native.Mathlib.Omega.{arith}
 use lib.ListN.{length-set}
-use Rattle.fields.specs.Fields.{u8_at}
 use Rattle.fields.proofs.Slices.{filled_none, filled_more, filled-all}
 use Rattle.fields.proofs.first48.Goals as goal
 

@@ -1,4 +1,3 @@
-
 use Rattle.log_lines.proofs.entry_begins.Goals as goal
 
 pub returns : goal.returns

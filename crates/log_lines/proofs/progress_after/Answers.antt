@@ -1,4 +1,3 @@
-
 use Rattle.log_lines.proofs.progress_after.Goals as goal
 
 pub returns : goal.returns

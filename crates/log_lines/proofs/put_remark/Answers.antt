@@ -14,5 +14,5 @@ put_shown-requires c =
 pub returns : goal.returns
 returns c =
     let said = put_then _ _ _ _ _ _ _ _ (c.put_text-remark_at.ensures.value, c.put_text-remark_at.ensures.text_after)
-          (put_same _ _ _ _ (ap shown c.remark-remark.ensures.bytes) (c.put_shown.ensures.value, c.put_shown.ensures.text_after)) in
+    (put_same _ _ _ _ (ap shown c.remark-remark.ensures.bytes) (c.put_shown.ensures.value, c.put_shown.ensures.text_after)) in
     record { upper_bound = omega arith; value = said.0; text_after = said.1 }

@@ -18,11 +18,11 @@ pub returns-then-number-is_time : goal.returns-then-number-is_time
 returns-then-number-is_time c =
     let n = printed-length (replicate 16 0) c.args.stamp c.print_date.ensures.text_after refl in
     let said = stamp-there _ _ _ _ (rw c.is_time.ensures) _ _ _ c.if-number-is_time.true c.print_date.ensures.text_after
-          (c.put_text.ensures.value, c.put_text.ensures.text_after) in
+    (c.put_text.ensures.value, c.put_text.ensures.text_after) in
     record { upper_bound = omega (arith, n); value = said.0; text_after = said.1 }
 
 pub returns-else-number-is_time : goal.returns-else-number-is_time
 returns-else-number-is_time c =
     let said = stamp-missing _ _ _ _ (rw c.is_time.ensures) _ _ c.if-number-is_time.false
-          (c.put_text-else-number-is_time.ensures.value, c.put_text-else-number-is_time.ensures.text_after) in
+    (c.put_text-else-number-is_time.ensures.value, c.put_text-else-number-is_time.ensures.text_after) in
     record { upper_bound = omega arith; value = said.0; text_after = said.1 }

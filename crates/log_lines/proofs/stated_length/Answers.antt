@@ -17,7 +17,7 @@ returns-then-h c =
 
 pub returns-else-h : goal.returns-else-h
 returns-else-h c = record {
-      value = not-stated _ _ _ (ap (λ (h : LineHead). h.part_count) c.line_head-h.ensures)
+  value = not-stated _ _ _ (ap (λ (h : LineHead). h.part_count) c.line_head-h.ensures)
       (ap (λ (h : LineHead). h.text_length) c.line_head-h.ensures) c.if-h.false;
-      lower_bound = (omega arith, omega arith);
-    }
+  lower_bound = (omega arith, omega arith);
+}

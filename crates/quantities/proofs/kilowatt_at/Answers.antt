@@ -1,4 +1,3 @@
-
 use Rattle.quantities.proofs.kilowatt_at.Goals as goal
 
 pub returns : goal.returns

@@ -1,4 +1,3 @@
-
 use Rattle.records.proofs.ask.Goals as goal
 
 pub returns : goal.returns

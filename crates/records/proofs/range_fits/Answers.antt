@@ -1,4 +1,3 @@
-
 use Rattle.records.proofs.range_fits.Goals as goal
 
 pub returns : goal.returns

@@ -1,4 +1,3 @@
-
 use Rattle.records.proofs.skips_question.Goals as goal
 
 pub returns : goal.returns

@@ -1,4 +1,3 @@
-
 use Rattle.records.proofs.vacates_slot.Goals as goal
 
 pub returns : goal.returns

@@ -3,8 +3,8 @@ use Rattle.report.proofs.first_broken_part_is_named.Goals as goal
 
 pub returns : goal.returns
 returns c = record {
-      covered = covered-exactly;
-      broken = broken-first;
-      completable = completable;
-      unnamed = (unnamed, none_named);
-    }
+  covered = covered-exactly;
+  broken = broken-first;
+  completable = completable;
+  unnamed = (unnamed, none_named);
+}

@@ -1,4 +1,3 @@
-
 use Rattle.report.proofs.part_by_fields.Goals as goal
 
 pub returns : goal.returns

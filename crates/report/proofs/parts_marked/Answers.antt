@@ -1,4 +1,3 @@
-use Prim.Native.Nat.{◌-◌}
 use Rattle.fields.proofs.Tests.{tested-none, tested-more, tested-all}
 use Rattle.report.proofs.parts_marked.Goals as goal
 

@@ -4,8 +4,8 @@ use Rattle.rules.proofs.alike_lists_leave_alike_blocks.Goals as goal
 
 pub returns : goal.returns
 returns c = record {
-      accepted = λ roster buffer ok. accepted-at-desk _ _ (set-up-begins roster buffer ok);
-      alike = λ unit roster buffer roster' buffer' ok ok' ss ss' a.
-          alike unit (set-up-begins roster buffer ok) (set-up-begins roster' buffer' ok') ss ss'
-          (entries-alike unit roster roster' ss ss' a);
-    }
+  accepted = λ roster buffer ok. accepted-at-desk _ _ (set-up-begins roster buffer ok);
+  alike = λ unit roster buffer roster' buffer' ok ok' ss ss' a.
+      alike unit (set-up-begins roster buffer ok) (set-up-begins roster' buffer' ok') ss ss'
+      (entries-alike unit roster roster' ss ss' a);
+}

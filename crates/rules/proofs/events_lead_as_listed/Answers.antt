@@ -3,7 +3,7 @@ use Rattle.rules.proofs.events_lead_as_listed.Goals as goal
 
 pub returns : goal.returns
 returns c = record {
-      once = listed-once;
-      listed = listed-leads;
-      led = leads-listed;
-    }
+  once = listed-once;
+  listed = listed-leads;
+  led = leads-listed;
+}

@@ -1,5 +1,5 @@
 -- Set-up (20, 21), questions 1 to 3 on a register, and where the block afterwards is put.
-use Rattle.std.specs.Prelude.{ℕ, ◌+◌, List, [], ◌∷◌, ◌++◌, Bool, not, ◌&&◌, eqb, length}
+use Rattle.std.specs.Prelude.{ℕ, List, [], ◌∷◌, ◌++◌, Bool, not, ◌&&◌, eqb, length}
 use Rattle.fields.specs.Lists.{part}
 use Rattle.rules.specs.Block.{zeros}
 use Rattle.rules.specs.Desk.{new_register, set_up, question3, with_block, answer_to}

@@ -1,4 +1,3 @@
-use Prim.Native.Nat.{◌-◌}
 use Rattle.validation.proofs.Joins.{over_none, over-more, over-all}
 use Rattle.validation.proofs.ask_parts.Goals as goal
 

@@ -1,4 +1,3 @@
-
 use Rattle.validation.proofs.end_mark_in_range.Goals as goal
 
 pub returns : goal.returns

@@ -1,4 +1,3 @@
-
 use Rattle.validation.proofs.part_is_on_quarter.Goals as goal
 
 pub returns : goal.returns

@@ -10,9 +10,11 @@ loop-i-init c = (omega arith, IsCharBoundary-start _ c.as_bytes-bytes.ensures.ut
 pub loop-i-preserved : goal.loop-i-preserved
 loop-i-preserved c =
     let bytes = c.as_bytes-bytes.result.now in
-    let value = c.past_slash-start.ensures.value in
-    (c.past_slash-start.ensures.bound, elim (cases_eq (get_or bytes c.loop-i.i 0) 47) [
-      inl e ↦ subst (IsCharBoundary bytes) (sym (value.0 e))
-          (IsCharBoundary-after_ascii bytes c.loop-i.i c.as_bytes-bytes.ensures.utf8 c.loop-i-test.true (omega (arith, e)))
-    | inr n ↦ subst (IsCharBoundary bytes) (sym (value.1 n)) c.loop-i.invariant.1
-    ])
+    let value = c.past_slash-start.ensures.value in (
+      c.past_slash-start.ensures.bound,
+      elim (cases_eq (get_or bytes c.loop-i.i 0) 47) [
+        | inl e ↦ subst (IsCharBoundary bytes) (sym (value.0 e))
+            (IsCharBoundary-after_ascii bytes c.loop-i.i c.as_bytes-bytes.ensures.utf8 c.loop-i-test.true (omega (arith, e)))
+        | inr n ↦ subst (IsCharBoundary bytes) (sym (value.1 n)) c.loop-i.invariant.1
+      ],
+    )
