@@ -1,11 +1,11 @@
 -- A part of a list, moved to its front element by element. Assumes nothing.
-use Prim.Native.Nat.{ℕ, ◌+◌, ◌-◌, ◌≤◌, ◌<◌}
+use Prim.Native.Nat.{ℕ, ◌+◌, ◌≤◌, ◌<◌}
 use mathlib.Core.Path.{◌≡◌, ap, sym, ◌∙◌}
 use mathlib.Core.List.{List}
 use native.Mathlib.Nat.{zero-add}
 use native.Mathlib.Numerals.{add-one}
 use native.Mathlib.Omega.{arith}
-use lib.ListN.{length, get_or, set, take, drop, length-take}
+use lib.ListN.{length, get_or, set, take}
 use lib.Seq.{take-suc, take_all, length-take-le}
 use Rattle.fields.specs.Lists.{part, put}
 use Rattle.fields.proofs.Slices.{put-nothing, put-more, put-above, part-at, part_length}
@@ -33,12 +33,3 @@ module _ (s : List ℕ) (from n : ℕ) (inside : from + n ≤ length s) where
   pub all_moved : {w : List ℕ} {j : ℕ} → j ≡ n → w ≡ put s 0 (take j (part s from n)) → w ≡ put s 0 (part s from n)
   all_moved {w} {j} m e =
       e ∙ ap (put s 0) (take_all j (part s from n) (rw (part_length s from n inside) (omega (arith, m))))
-
--- as many bytes as `&s[from..to]` has
-pub taken-within : (s : List ℕ) (from to : ℕ) {k : ℕ} → from ≤ to → k ≤ length (take (to - from) (drop from s)) → from + k ≤ to
-taken-within s from to a h =
-    let most : length (take (to - from) (drop from s)) ≤ to - from = rw (length-take (to - from) (drop from s)) (omega arith) in
-    omega (arith, a, h, most)
-
-pub cut_most : (s : List ℕ) (k : ℕ) {most : ℕ} → k ≤ most → length (take k s) ≤ most
-cut_most s k h = rw (length-take k s) (omega arith)
