@@ -66,8 +66,8 @@ def claims_are_there():
 
 def cited_by(path):
     """The definitions that a file brings in: crate and file, or the line itself where it is no file of specs/."""
-    for line in re.findall(r"^(?:ghost )?use (Rattle·[^{;\n]*)", text_of(path), re.MULTILINE):
-        found = re.fullmatch(r"Rattle·(\w+)(?:·specs)?\.specs\.(declared|Boundaries\.[A-Z]\w+|\w+)(?:\.| as ).*", line)
+    for line in re.findall(r"^(?:ghost )?use (Rattle\.(?!std\.)[^{;\n]*)", text_of(path), re.MULTILINE):
+        found = re.fullmatch(r"Rattle\.(\w+)\.specs\.(declared|Boundaries\.[A-Z]\w+|\w+)(?:\.| as ).*", line)
         yield (found[1], found[2].replace(".", "/")) if found else (line, "")
 
 
