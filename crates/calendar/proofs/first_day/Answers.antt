@@ -1,5 +1,5 @@
 use native.Mathlib.Omega.{arith}
-use Rattle.calendar.proofs.Months.{first_by}
+use Rattle.calendar.proofs.MonthSums.{first_by}
 use Rattle.calendar.proofs.first_day.Goals as goal
 
 pub returns : goal.returns

@@ -2,7 +2,7 @@ use mathlib.Core.Path.{refl, sym, ◌∙◌}
 use native.Mathlib.Omega.{arith}
 use borrow.Author.Tests.{eq-eqb, ne_eqb}
 use Rattle.fields.proofs.Bools.{chosen, passed_over}
-use Rattle.calendar.proofs.Months.{length-by}
+use Rattle.calendar.proofs.MonthSums.{length-by}
 use Rattle.calendar.proofs.month_length.Goals as goal
 
 pub returns-then-months-ne1 : goal.returns-then-months-ne1
