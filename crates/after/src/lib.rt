@@ -35,7 +35,7 @@ fn put_pairs(z: &mut [u8], report: &[u8], k: u16)
 
 fn write_slot(z: &mut [u8], report: &[u8])
     requires z_len { length z.old ≡ slot_size }
-    requires report_bound { part_count_of report.now ≤ most_parts }
+    requires few_parts { part_count_of report.now ≤ most_parts }
     ensures { z.new ≡ slot_bytes (record_of report.now) (parts_of report.now) }
 {
     let h = report::head_of(report);
@@ -46,7 +46,7 @@ fn write_slot(z: &mut [u8], report: &[u8])
 
 fn set_slot(z: &mut [u8], report: &[u8], written: bool, cleared: bool)
     requires z_len { length z.old ≡ slot_size }
-    requires report_bound { part_count_of report.now ≤ most_parts }
+    requires few_parts { part_count_of report.now ≤ most_parts }
     ensures { z.new ≡ slot_made report.now written cleared z.old }
 {
     if written {
@@ -58,7 +58,7 @@ fn set_slot(z: &mut [u8], report: &[u8], written: bool, cleared: bool)
 
 fn set_slots(b: &mut [u8], report: &[u8], plan: Plan)
     requires b_len { length b.old ≡ block_size }
-    requires report_bound { part_count_of report.now ≤ most_parts }
+    requires few_parts { part_count_of report.now ≤ most_parts }
     ensures { b.new ≡ slots_planned b.old report.now plan }
 {
     for i in 0..SLOT_COUNT {

@@ -75,7 +75,7 @@ fn log_some(
     most: usize,
 ) -> Batch
     requires { 128 * most ≤ length text.old }
-    ensures taken_in_bounds { (result.taken ≤ length input.now) × (result.length ≤ length text.old) }
+    ensures in_bounds { (result.taken ≤ length input.now) × (result.length ≤ length text.old) }
     ensures value { result ≡ batch_of so_far register.old (reports_here most register.old input.now ended) }
     ensures text_after { text.new ≡ put text.old 0 (batch_lines so_far register.old (reports_here most register.old input.now ended)) }
     ensures register_after { register.new ≡ register_after register.old (reports_here most register.old input.now ended) }
@@ -112,7 +112,7 @@ pub fn log_batch(
     so_far: Progress,
     text: &mut [u8],
 ) -> Batch
-    ensures taken_in_bounds { (result.taken ≤ length input.now) × (result.length ≤ length text.old) }
+    ensures in_bounds { (result.taken ≤ length input.now) × (result.length ≤ length text.old) }
     ensures value { result ≡ batch_of so_far register.old (reports_here (length text.old / 128) register.old input.now ended) }
     ensures text_after { text.new ≡ put text.old 0 (batch_lines so_far register.old (reports_here (length text.old / 128) register.old input.now ended)) }
     ensures register_after { register.new ≡ register_after register.old (reports_here (length text.old / 128) register.old input.now ended) }

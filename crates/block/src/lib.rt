@@ -243,7 +243,7 @@ pub fn zeros_at(s: &[u8], at: usize, n: usize) -> bool
 // numbers, which takes fewer instructions; a time is below 2 to the 31.
 fn ends_rise(z: &[u8], k: u16, period: Period) -> EndsFound
     requires k_in_bounds { pair_start k ≤ length z.now }
-    requires start_bound { (period.start.0 < 2147483648) × (period.end.0 < 2147483648) }
+    requires times_bound { (period.start.0 < 2147483648) × (period.end.0 < 2147483648) }
     ensures rise_value { result.rise ≡ ends_rise z.now pairs_start k period.start.0 period.end.0 }
     ensures powers_within { PowersWithin z.now k result.bound }
 {
@@ -283,7 +283,7 @@ fn pairs_rise(z: &[u8], k: u16, period: Period) -> bool
 // The same by one pass where the powers' bound is a power, as a rule.
 fn pairs_fit(z: &[u8], k: u16, period: Period) -> bool
     requires k_in_bounds { pair_start k ≤ length z.now }
-    requires start_bound { (period.start.0 < 2147483648) × (period.end.0 < 2147483648) }
+    requires times_bound { (period.start.0 < 2147483648) × (period.end.0 < 2147483648) }
     ensures { result ≡ pairs_rise z.now pairs_start k period.start.0 period.end.0 }
 {
     let found = ends_rise(z, k, period);

@@ -1,4 +1,4 @@
-// The desk: set-up, the answer to a report on the register, and the C interface to all that the library does.
+// The desk: set-up, the answer to a report on the register, and what C is answered: `desk_c` exports the functions that begin with desk_.
 #![tactic(auto)]
 
 ghost use Rattle.std.specs.Prelude.{◌≡◌, ◌≤◌, true};
@@ -28,8 +28,8 @@ fn refusal(number: u8) -> Answer
 
 // Questions 4 to 19 on the unit's own block, lent as a part of the register.
 fn judge_block(b: &mut [u8], report: &[u8]) -> Answer
-    requires b_value { block_whole (unit_head b.old).unit b.old ≡ true }
-    requires report_bound { part_count_of report.now ≤ most_parts }
+    requires whole_block { block_whole (unit_head b.old).unit b.old ≡ true }
+    requires few_parts { part_count_of report.now ≤ most_parts }
     ensures value { result ≡ (judged b.old report.now).answer }
     ensures b_after { b.new ≡ (judged b.old report.now).after }
 {
@@ -90,7 +90,7 @@ pub fn answer_report(register: &mut [u8], report: &[u8]) -> Answer
     judge_block(&mut register[a..e], report)
 }
 
-// The C interface: 0, 20 or 21.
+// For C: 0, 20 or 21.
 pub fn desk_set_up(roster: &[u8], register: &mut [u8]) -> u32
     ensures value { result ≡ (set_up roster.now register.old).number }
     ensures register_after { register.new ≡ (set_up roster.now register.old).after }
@@ -98,7 +98,7 @@ pub fn desk_set_up(roster: &[u8], register: &mut [u8]) -> u32
     setup::set_up(roster, register) as u32
 }
 
-// The C interface: the number, 256 times the warnings and 65,536 times the part.
+// For C: the number, 256 times the warnings and 65,536 times the part.
 pub fn desk_answer(register: &mut [u8], report: &[u8]) -> u32
     ensures value { result ≡ packed (answer_to register.old report.now).answer }
     ensures register_after { register.new ≡ (answer_to register.old report.now).after }
@@ -107,7 +107,7 @@ pub fn desk_answer(register: &mut [u8], report: &[u8]) -> u32
     a.number as u32 + 256 * (a.warnings as u32) + 65536 * (a.part as u32)
 }
 
-// The C interface: the remark's number, and 256 where it is the standing text; where it begins, and its length.
+// For C: the remark's number, and 256 where it is the standing text; where it begins, and its length.
 pub fn desk_remark(report: &[u8], standing: &[u8], place: &mut u64, length: &mut u64) -> u32
     ensures value { result ≡ packed_remark (remark_in report.now standing.now) }
     ensures place_after { place.new ≡ (remark_in report.now standing.now).start }
@@ -119,7 +119,7 @@ pub fn desk_remark(report: &[u8], standing: &[u8], place: &mut u64, length: &mut
     p.number as u32 + 256 * (p.standing as u32)
 }
 
-// The C interface: the number, and 2^32 times the minute.
+// For C: the number, and 2^32 times the minute.
 pub fn desk_read_date(text: &[u8]) -> u64
     ensures { result ≡ packed_date (date_read text.now) }
 {
@@ -127,7 +127,7 @@ pub fn desk_read_date(text: &[u8]) -> u64
     (read.number as u64) + 4294967296 * (read.minute.0 as u64)
 }
 
-// The C interface: 0, 22 or 43.
+// For C: 0, 22 or 43.
 pub fn desk_print_date(minute: u32, text: &mut [u8]) -> u32
     ensures value { result ≡ put_answer (record { 0 = minute }) text.old }
     ensures text_after { text.new ≡ date_put (record { 0 = minute }) text.old }

@@ -296,7 +296,7 @@ fn held_until(
     step: LaneSpan,
     m: Minute,
 ) -> Minute
-    requires there_value { step.span.level.there ≡ true }
+    requires has_level { step.span.level.there ≡ true }
     requires stepped { Stepped (pair_of report.now slot.now in_report) lane.count m.0 (lane_level lane (pair_of report.now slot.now in_report) lane.record_type) step }
     ensures { Held (pair_of report.now slot.now in_report) lane m.0 result.0 }
 {
@@ -332,7 +332,7 @@ fn choose_lane(
     requires m_bound { m.0 < 4294967295 }
     requires placed { Placed b.now report.now lanes places.old m.0 }
     ensures chosen { Chosen b.now report.now lanes record_type m.0 result }
-    ensures placed_2 { Placed b.now report.now lanes places.new m.0 }
+    ensures placed_after { Placed b.now report.now lanes places.new m.0 }
 {
     let mut until = Minute(4294967295);
     let mut i = 0u8;

@@ -338,7 +338,7 @@ pub fn entry_begins(input: &[u8]) -> bool
 // A report's length by its own k and t.
 pub fn stated_length(head: &[u8]) -> usize
     ensures value { result ≡ stated_length head.now }
-    ensures lower_bound { (parts_start ≤ result) × (result ≤ text_after most_parts + most_text) }
+    ensures bounds { (parts_start ≤ result) × (result ≤ text_after most_parts + most_text) }
 {
     let h = reader::line_head(head);
     if (h.part_count <= MOST_PARTS as u32) & (h.text_length <= MOST_TEXT as u32) {

@@ -185,7 +185,7 @@ fn put_times(report: &mut [u8], s: Sent) {
 }
 
 fn length_of(s: Sent) -> usize
-    ensures lower_bound { (50 ≤ result) × (result ≤ 82) }
+    ensures bounds { (50 ≤ result) × (result ≤ 82) }
     ensures value { result ≡ length_sent s }
 {
     report::PARTS_START + report::PART_SIZE * (part_count(s) as usize) + 2

@@ -59,8 +59,8 @@ fn log_input<R: Print + Eprint + Alloc, I: Read>(
     remarks: bool,
     text: &mut [u8],
 )
-    requires input_len { (length input.old ≡ 226) × (length register.old ≡ 57344) }
-    requires report_len { (length report.old ≡ 1850) × (length text.old ≡ 1024) }
+    requires input_and_register { (length input.old ≡ 226) × (length register.old ≡ 57344) }
+    requires report_and_text { (length report.old ≡ 1850) × (length text.old ≡ 1024) }
 {
     let start = read_roster(rt, reader, input);
     let ahead = start.ahead;

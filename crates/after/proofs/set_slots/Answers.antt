@@ -15,7 +15,7 @@ set_slot-requires c =
     let here = c.loop-i in
     record {
       z_len = lent_length here.b (head_size + slot_size * here.i) slot_size (omega arith);
-      report_bound = omega arith;
+      few_parts = omega arith;
     }
 
 pub loop-i-preserved : goal.loop-i-preserved

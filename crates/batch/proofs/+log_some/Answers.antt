@@ -9,7 +9,7 @@ returns-then-most-eq0 t c =
     let a = c.args in
     let d = none-asked a.so_far a.register.now a.input.now a.ended c.no_reports.ensures a.text.now c.if-most-eq0.true in
     record {
-      taken_in_bounds = rw c.no_reports.ensures (omega arith, omega arith);
+      in_bounds = rw c.no_reports.ensures (omega arith, omega arith);
       value = d.result;
       text_after = d.lines;
       register_after = d.left;
@@ -21,7 +21,7 @@ returns-then-not-report_here t c =
     let d = none_here a.so_far a.register.now a.input.now a.ended c.no_reports-then-not-report_here.ensures a.text.now a.most
     c.report_here.ensures c.if-not-report_here.true in
     record {
-      taken_in_bounds = rw c.no_reports-then-not-report_here.ensures (omega arith, omega arith);
+      in_bounds = rw c.no_reports-then-not-report_here.ensures (omega arith, omega arith);
       value = d.result;
       text_after = d.lines;
       register_after = d.left;
@@ -36,7 +36,7 @@ returns-then-logged t c =
     let d = last_done a.so_far a.register.now a.input.now a.ended a.text.now first.value first.upper_bound logged.value
     c.report_here.ensures c.if-not-report_here.false logged.text_after logged.register_after a.most (omega arith) c.if-logged.true (c.before_others.ensures ∙ nothing) in
     record {
-      taken_in_bounds = rw (c.before_others.ensures ∙ nothing) (omega arith, omega arith);
+      in_bounds = rw (c.before_others.ensures ∙ nothing) (omega arith, omega arith);
       value = d.result;
       text_after = d.lines;
       register_after = d.left;
@@ -52,9 +52,9 @@ returns t c =
     c.report_here.ensures c.if-not-report_here.false logged.text_after logged.register_after a.most (omega arith) c.if-logged.false
     (record { result = rest.value; lines = rest.text_after; left = rest.register_after }) c.before_others-2.ensures in
     record {
-      taken_in_bounds = rw c.before_others-2.ensures (
-        within-lent _ _ _ first.upper_bound rest.taken_in_bounds.0,
-        within-put _ _ _ _ logged.text_after (omega arith) rest.taken_in_bounds.1,
+      in_bounds = rw c.before_others-2.ensures (
+        within-lent _ _ _ first.upper_bound rest.in_bounds.0,
+        within-put _ _ _ _ logged.text_after (omega arith) rest.in_bounds.1,
       );
       value = d.result;
       text_after = d.lines;

@@ -16,7 +16,7 @@ returns-then-not-holds_alone c = fails-alone _ _ _ c.is_used.ensures
 pub pairs_fit-requires : goal.pairs_fit-requires
 pairs_fit-requires c = record {
   k_in_bounds = omega arith;
-  start_bound = alone-times _ _ _ c.holds_alone.ensures c.if-not-holds_alone.false;
+  times_bound = alone-times _ _ _ c.holds_alone.ensures c.if-not-holds_alone.false;
 }
 
 pub returns-then-is_used : goal.returns-then-is_used

@@ -38,8 +38,8 @@ pub judge_block-requires : goal.judge_block-requires
 judge_block-requires c =
     let k = inside _ _ (ap (λ (h : Head). h.unit) c.head_of-unit.ensures) c.is_addressed.ensures c.if-not-is_addressed.false in
     record {
-      b_value = lent-whole _ c.register_whole.ensures c.if-not-register_whole.false k;
-      report_bound = (whole-sized _ (sym c.is_whole.ensures ∙ c.if-not-is_whole.false)).few;
+      whole_block = lent-whole _ c.register_whole.ensures c.if-not-register_whole.false k;
+      few_parts = (whole-sized _ (sym c.is_whole.ensures ∙ c.if-not-is_whole.false)).few;
     }
 
 pub returns : goal.returns

@@ -10,6 +10,6 @@ returns-then-decision-ne0 c =
 
 pub returns : goal.returns
 returns c =
-    let said = accepts _ _ c.decide-decision.ensures (ok-size _ _ c.requires.b_value) (block-free _ _ c.requires.b_value)
-    c.requires.report_bound c.if-decision-ne0.false c.apply.ensures c.head_of.ensures c.warnings_on-warnings.ensures in
+    let said = accepts _ _ c.decide-decision.ensures (ok-size _ _ c.requires.whole_block) (block-free _ _ c.requires.whole_block)
+    c.requires.few_parts c.if-decision-ne0.false c.apply.ensures c.head_of.ensures c.warnings_on-warnings.ensures in
     record { value = said.0; b_after = said.1 }

@@ -13,7 +13,7 @@ level_in-step-requires c = record {
 
 pub held_until-held-requires : goal.held_until-held-requires
 held_until-held-requires c = record {
-  there_value = c.if-step.true;
+  has_level = c.if-step.true;
   stepped = c.level_in-step.ensures;
 }
 
@@ -22,7 +22,7 @@ returns-then-step c = record {
   chosen = looked-hit _ _ _ _ c.loop-i.invariant.0 c.loop-i-test.true c.lane_slot-slot.ensures
       c.if-lane-record_type.true c.held_until-held.ensures c.level_in-step.ensures.passed
       (c.level_in-step.ensures.ends c.if-step.true) (sooner c.earlier-until.ensures);
-  placed_2 = placed-set _ _ _ c.loop-i-test.true c.lane_slot-slot.ensures c.loop-i.invariant.1
+  placed_after = placed-set _ _ _ c.loop-i-test.true c.lane_slot-slot.ensures c.loop-i.invariant.1
       c.level_in-step.ensures.passed;
 }
 
@@ -44,5 +44,5 @@ loop-i-preserved c = (
 pub returns : goal.returns
 returns c = record {
   chosen = looked-all _ _ _ _ c.loop-i.invariant.0 c.loop-i-test.false c.no_choice.ensures;
-  placed_2 = c.loop-i.invariant.1;
+  placed_after = c.loop-i.invariant.1;
 }

@@ -5,13 +5,13 @@ use Rattle.levels.proofs.held_until.Goals as goal
 
 pub overflow_sub-lane : goal.overflow_sub-lane
 overflow_sub-lane c =
-    let place = held_place _ c.requires.there_value c.requires.stepped in
+    let place = held_place _ c.requires.has_level c.requires.stepped in
     omega arith
 
 pub returns-then-m-last : goal.returns-then-m-last
-returns-then-m-last c = held-last _ c.requires.there_value c.requires.stepped c.pair_of.ensures
+returns-then-m-last c = held-last _ c.requires.has_level c.requires.stepped c.pair_of.ensures
     c.if-m-last.true
     (sooner c.earlier.ensures)
 
 pub returns : goal.returns
-returns c = held-step _ c.requires.there_value c.requires.stepped
+returns c = held-step _ c.requires.has_level c.requires.stepped

@@ -18,13 +18,13 @@ choose_lane-forced-requires c = record {
 pub choose_lane-positive-requires : goal.choose_lane-positive-requires
 choose_lane-positive-requires c = record {
   m_bound = omega arith;
-  placed = c.choose_lane-forced.ensures.placed_2;
+  placed = c.choose_lane-forced.ensures.placed_after;
 }
 
 pub choose_lane-negative-requires : goal.choose_lane-negative-requires
 choose_lane-negative-requires c = record {
   m_bound = omega arith;
-  placed = c.choose_lane-positive.ensures.placed_2;
+  placed = c.choose_lane-positive.ensures.placed_after;
 }
 
 pub sweep_choices-stretch-requires : goal.sweep_choices-stretch-requires
@@ -46,7 +46,7 @@ loop-m-preserved-then-forced c =
     let later = c.sweep_choices-stretch.ensures.later in (
       chosen-judged _ _ _ c.loop-m.invariant.0 c.choose_lane-forced.ensures.chosen c.choose_lane-positive.ensures.chosen
           c.choose_lane-negative.ensures.chosen c.sweep_choices-stretch.ensures c.both_found-g.ensures,
-      placed-later _ _ _ c.choose_lane-negative.ensures.placed_2 (omega arith),
+      placed-later _ _ _ c.choose_lane-negative.ensures.placed_after (omega arith),
     )
 
 pub loop-m-smaller : goal.loop-m-smaller
@@ -61,7 +61,7 @@ loop-m-preserved c =
     c.loop-m-test.true in (
       judged-quiet _ _ _ _ c.loop-m.invariant.0 c.loop-m-test.true
           (chosen-quiet _ _ _ c.choose_lane-forced.ensures.chosen c.if-forced.false) refl (sooner c.earlier-m.ensures),
-      placed-later _ _ _ c.choose_lane-forced.ensures.placed_2 (omega (arith, up)),
+      placed-later _ _ _ c.choose_lane-forced.ensures.placed_after (omega (arith, up)),
     )
 
 pub returns : goal.returns

@@ -12,12 +12,12 @@ returns-then-h c =
       value = stated _ _ _ (ap (λ (h : LineHead). h.part_count) c.line_head-h.ensures)
           (ap (λ (h : LineHead). h.text_length) c.line_head-h.ensures)
           c.if-h.true;
-      lower_bound = (omega arith, omega (arith, sizes.0, sizes.1));
+      bounds = (omega arith, omega (arith, sizes.0, sizes.1));
     }
 
 pub returns-else-h : goal.returns-else-h
 returns-else-h c = record {
   value = not-stated _ _ _ (ap (λ (h : LineHead). h.part_count) c.line_head-h.ensures)
       (ap (λ (h : LineHead). h.text_length) c.line_head-h.ensures) c.if-h.false;
-  lower_bound = (omega arith, omega arith);
+  bounds = (omega arith, omega arith);
 }
