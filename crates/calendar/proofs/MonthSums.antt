@@ -1,14 +1,53 @@
--- By arithmetic too each of the 600 months has the first day and the length that it has: a test that antt computes. Assumes nothing.
-use Prim.Native.Nat.{ℕ, ◌+◌, ◌*◌, ◌/◌, ◌%◌, ◌≤◌, ◌<◌}
+-- The division that code comes near a day's month by, and the sums by which it reads a month, are right for all 600: tests that
+-- antt computes. Assumes nothing.
+use Prim.Native.Nat.{ℕ, zero, suc, ◌+◌, ◌-◌, ◌*◌, ◌/◌, ◌%◌, ◌≤◌, ◌<◌}
 use mathlib.Core.Path.{◌≡◌, refl}
 use mathlib.Core.Bool.{true, ◌&&◌}
+use mathlib.Core.Logic.{⊎_elim}
 use native.Mathlib.Omega.{arith}
+use native.Mathlib.Numerals.{sub-one}
 use lib.Dec.{eqb}
 use borrow.Author.Tests.{eqb-true}
 use Rattle.fields.specs.Lists.{pick}
-use Rattle.fields.proofs.Bools.{and_left, and_right}
-use Rattle.calendar.specs.Calendar.{days_in, month_length, month_start}
-use Rattle.calendar.proofs.Months.{passes, passes_at, first_day_by, length_by}
+use Rattle.fields.proofs.Bools.{and_left, and_right, lt-or-le}
+use Rattle.calendar.specs.Calendar.{days_in, month_length, month_start, month_of}
+use Rattle.calendar.proofs.Months.{near, passes, passes_at, first_day_by, length_by, last-only}
+
+-- on the first day of a month the division gives the month
+near_first : (k : ℕ) → k < 600 → near (month_start k) ≡ k
+unfolding passes days_in pick
+near_first k l = eqb-true (near (month_start k)) k (passes_at (λ k start. eqb (near start) k) k refl l)
+
+-- the month n that the division gives, which begins on s, is the day's where it has begun
+pub month-here : {day n s : ℕ} → n ≡ near day → s ≡ month_start n → s ≤ day → n ≡ month_of day
+month-here {day} {n} e b l =
+    last-only
+    (record {
+      few = omega arith;
+      begun = omega arith;
+      last = λ k.
+          ⊎_elim
+          (λ h. h)
+          (λ h. absurd (omega (arith, near_first (suc n) (omega arith))))
+          (lt-or-le day (month_start (suc n)));
+    })
+
+-- and else there is one before, which is
+pub month-before : {day n s : ℕ} → n ≡ near day → s ≡ month_start n → day < s → n - 1 ≡ month_of day
+unfolding month_start
+month-before {n = zero} e b l = omega arith
+month-before {day = day} {n = suc n} e b l =
+    rw sub-one
+    (last-only
+    (record {
+      few = omega arith;
+      begun =
+          ⊎_elim
+          (λ h. absurd (omega (arith, near_first n (omega arith))))
+          (λ h. h)
+          (lt-or-le day (month_start n));
+      last = λ k. omega arith;
+    }))
 
 by-arithmetic : (k : ℕ) → k < 600 → (eqb (first_day_by (k / 12) (k % 12)) (month_start k) && eqb (length_by (k / 12) (k % 12)) (month_length k)) ≡ true
 unfolding passes days_in pick

@@ -1,6 +1,7 @@
 use mathlib.Core.Path.{◌∙◌, ap}
 use Rattle.calendar.specs.Calendar.{month_start}
-use Rattle.calendar.proofs.Months.{month-here, month-before, not_first}
+use Rattle.calendar.proofs.Months.{not_first}
+use Rattle.calendar.proofs.MonthSums.{month-here, month-before}
 use Rattle.calendar.proofs.month_of.Goals as goal
 
 pub overflow_sub-result : goal.overflow_sub-result
