@@ -15,7 +15,7 @@ ghost use Rattle.block.specs.Codec.{head_fields_end, slot_fields_end, RecordFits
 ghost use Rattle.block.specs.declared.Pair.{Pair};
 ghost use Rattle.block.specs.Slot.{stretch_size, pair_at, ends_rise, PowersWithin, pairs_rise, holds_alone, head_whole, FreeFrom};
 
-use fields::{put_u8, put_u16, u8_at, u16_at};
+use fields::{bytes_at, put_u8, put_u16, u8_at, u16_at};
 use quantities::{Kilowatt, Minute, Period, kilowatt_at, minute_at, put_kilowatt, put_minute};
 use records::{
     OFF_GRID, STOP, choose, fields_in_range, has_begun, is_levelled, kind_allows, within,
@@ -118,7 +118,7 @@ pub fn entry_of(s: &[u8]) -> RosterEntry
 pub fn unit_head(b: &[u8]) -> UnitHead
     ensures { result ≡ unit_head b.now }
 {
-    let head = fields::first48(b);
+    let head = bytes_at::<48>(b, 0);
     let since = minute_at(&head, 12);
     let row = Row {
         state: head[7],
@@ -153,8 +153,8 @@ pub fn is_used(z: &[u8]) -> bool
 pub fn record_in(z: &[u8]) -> Record
     ensures { result ≡ record_in z.now }
 {
-    let slot = fields::first48(z);
-    let identifier = fields::first16(&slot[8..24]);
+    let slot = bytes_at::<48>(z, 0);
+    let identifier = bytes_at::<16>(&slot, 8);
     let stamp = minute_at(&slot, 24);
     let period = quantities::period_at(&slot, 28);
     Record {
@@ -180,7 +180,7 @@ fn u32_in(s: &[u8], at: usize) -> u32
     requires { at + 4 ≤ length s.now }
     ensures { result ≡ u32_at s.now at }
 {
-    fields::u32_of(s[at], s[at + 1], s[at + 2], s[at + 3])
+    u32::from_le_bytes([s[at], s[at + 1], s[at + 2], s[at + 3]])
 }
 
 // Pair j of a slot, from 0.
@@ -249,16 +249,16 @@ fn ends_rise(z: &[u8], k: u16, period: Period) -> EndsFound
 {
     let mut rise = true;
     let mut bound = 0u32;
-    let mut start = fields::i32_of(period.start.0);
+    let mut start = period.start.0.cast_signed();
     for i in 0..k {
         let at = PAIRS_START + PAIR_SIZE * (i as usize);
-        let end = fields::i32_of(u32_in(z, at));
+        let end = u32_in(z, at).cast_signed();
         bound = bound | u32_in(z, at + 4);
         rise = rise & (start < end);
         start = end;
     }
     EndsFound {
-        rise: rise & (start == fields::i32_of(period.end.0)),
+        rise: rise & (start == period.end.0.cast_signed()),
         bound,
     }
 }

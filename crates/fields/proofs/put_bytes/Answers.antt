@@ -1,25 +1,14 @@
-use mathlib.Core.Path.{◌≡◌, refl, ◌∙◌}
-use native.Mathlib.Omega.{arith}
-use lib.ListN.{length-set}
-use Rattle.fields.specs.Lists.{put}
-use Rattle.fields.proofs.Slices.{put-taken, put-fitting}
+use Rattle.std.proofs.Common.{◌≤◌, ◌+◌, length, take, arith, sym, ◌∙◌}
+use Rattle.fields.proofs.Slices.{lent_back, put-fitting, put-past}
 use Rattle.fields.proofs.put_bytes.Goals as goal
 
-pub loop-j-init : goal.loop-j-init
-unfolding put
-loop-j-init c = (omega arith, omega arith, refl)
-
-pub loop-j-preserved : goal.loop-j-preserved
-loop-j-preserved c =
-    let args = c.args in (
-      omega arith,
-      simp length-set (omega arith),
-      put-taken args.bytes.now args.s.now _ args.at c.loop-j.j c.loop-j.invariant.2 (omega arith),
-    )
-
-pub returns : goal.returns
-returns c =
+pub returns-then-at-s : goal.returns-then-at-s
+returns-then-at-s c =
     let args = c.args in
-    let e : c.loop-j.j ≡ c.fitting-n.result = omega arith in
-    c.loop-j.invariant.2
-    ∙ put-fitting args.bytes.now args.s.now args.at _ (e ∙ c.fitting-n.ensures)
+    let n = c.min-n.result in
+    let room : args.at + n ≤ length args.s.now = omega arith in
+    lent_back (λ _. take n args.bytes.now) args.s.now args.at n c.copy_from_slice.new.self room c.copy_from_slice.ensures.len c.copy_from_slice.ensures.after
+    ∙ put-fitting args.bytes.now args.s.now args.at n c.min-n.ensures
+
+pub returns-else-at-s : goal.returns-else-at-s
+returns-else-at-s c = sym (put-past _ _ _ c.if-at-s.false)

@@ -1,10 +1,7 @@
-use mathlib.Core.Path.{sym}
-use Rattle.fields.proofs.Slices.{put-past}
-use Rattle.fields.proofs.Numbers.{put-pair}
+use Rattle.std.proofs.Common.{refl}
+use Rattle.fields.specs.Fields.{bytes_of}
 use Rattle.fields.proofs.put_u16.Goals as goal
 
-pub returns-then-at-s : goal.returns-then-at-s
-returns-then-at-s c = rw (← put-pair) (cc)
-
-pub returns-else-at-s : goal.returns-else-at-s
-returns-else-at-s c = sym (put-past _ _ _ c.if-at-s.false)
+pub returns : goal.returns
+unfolding bytes_of
+returns c = rw (c.put_bytes.ensures, c.to_le_bytes.ensures) refl

@@ -1,10 +1,12 @@
-use mathlib.Core.Path.{sym}
-use Rattle.fields.proofs.Slices.{put-past}
-use Rattle.fields.proofs.Numbers.{put-halves}
+use Rattle.std.proofs.Common.{◌≡◌, ◌/◌}
+use native.Mathlib.Nat.{div-div-eq-div-mul}
+use Rattle.fields.specs.Fields.{bytes_of}
 use Rattle.fields.proofs.put_u32.Goals as goal
 
-pub returns-then-at-s : goal.returns-then-at-s
-returns-then-at-s c = rw put-halves (cc)
-
-pub returns-else-at-s : goal.returns-else-at-s
-returns-else-at-s c = sym (put-past _ _ _ c.if-at-s.false)
+pub returns : goal.returns
+unfolding bytes_of
+returns c =
+    let v = c.args.v in
+    let two : v / 256 / 256 ≡ v / 65536 = div-div-eq-div-mul v 256 256 in
+    let three : v / 65536 / 256 ≡ v / 16777216 = div-div-eq-div-mul v 65536 256 in
+    rw (c.put_bytes.ensures, c.to_le_bytes.ensures) (rw (two, three))

@@ -1,12 +1,10 @@
-use borrow.Author.Tests.{lt-ltb, le-ltb}
+use Rattle.std.proofs.Common.{arith}
+use Rattle.std.proofs.lemmas.Grind.{common_steps}
+use Rattle.std.proofs.lemmas.Bool.Decides.{nat_tests}
 use Rattle.fields.specs.Lists.{pick}
 use Rattle.quantities.specs.Quantities.{earlier_of}
 use Rattle.quantities.proofs.earlier.Goals as goal
 
-pub returns-then-m-n : goal.returns-then-m-n
+pub returns : goal.returns
 unfolding earlier_of pick
-returns-then-m-n c = rw (lt-ltb _ _ c.if-m-n.true)
-
-pub returns-else-m-n : goal.returns-else-m-n
-unfolding earlier_of pick
-returns-else-m-n c = rw (le-ltb _ _ c.if-m-n.false)
+returns c = grind (arith, nat_tests, common_steps)
