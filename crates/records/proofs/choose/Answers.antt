@@ -3,8 +3,8 @@ use Rattle.records.proofs.choose.Goals as goal
 
 pub returns-then-test : goal.returns-then-test
 unfolding pick
-returns-then-test c = rw c.if-test.true
+returns-then-test g c = rw c.if-test.true
 
 pub returns-else-test : goal.returns-else-test
 unfolding pick
-returns-else-test c = rw c.if-test.false
+returns-else-test g c = rw c.if-test.false
