@@ -4,6 +4,7 @@
 ghost use Rattle.std.specs.Prelude.{◌≡◌, not, ◌||◌, List, ℕ, ◌+◌, ◌*◌, ◌≤◌, ◌<◌, length, drop};
 ghost use Rattle.fields.specs.Fields.{u32_at};
 ghost use Rattle.fields.specs.Lists.{all, series, part, put};
+ghost use Rattle.quantities.specs.Quantities.{kilowatt_at};
 ghost use Rattle.rules.specs.declared.Record.{Record};
 ghost use Rattle.rules.specs.declared.UnitHead.{UnitHead};
 ghost use Rattle.rules.specs.Roster.{most_units, entry_size, powers_at, entry_of, entry_good, piece, roster_good};
@@ -62,39 +63,28 @@ pub struct EndsFound {
 pub fn slice_at<'a>(s: &'a [u8], at: usize, n: usize) -> &'a [u8]
     ensures { result.now ≡ part s.now at n }
 {
-    if s.len() <= at {
-        return &s[0..0];
-    }
-    let e = s.len();
-    if e - at <= n {
-        return &s[at..e];
-    }
-    let e = at + n;
-    &s[at..e]
+    let rest = s.get(at..).unwrap_or(&[]);
+    rest.get(..n).unwrap_or(rest)
 }
 
 pub fn powers_at(s: &[u8], at: usize) -> Powers
     ensures { result ≡ powers_at s.now at }
 {
-    if s.len() <= at {
-        let max = Kilowatt(0);
-        let min = Kilowatt(0);
-        let none = PowerRange { max, min };
-        return Powers {
-            generation: none,
-            consumption: none,
-        };
+    let powers = bytes_at::<16>(s, at);
+    Powers {
+        generation: range_at(&powers, 0),
+        consumption: range_at(&powers, 8),
     }
+}
+
+// The highest power, then the lowest.
+fn range_at(s: &[u8], at: usize) -> PowerRange
+    requires { at < 18446744073709551612 }
+    ensures { result ≡ record { max = kilowatt_at s.now at; min = kilowatt_at s.now (at + 4) } }
+{
     let max = kilowatt_at(s, at);
     let min = kilowatt_at(s, at + 4);
-    let generation = PowerRange { max, min };
-    let max = kilowatt_at(s, at + 8);
-    let min = kilowatt_at(s, at + 12);
-    let consumption = PowerRange { max, min };
-    Powers {
-        generation,
-        consumption,
-    }
+    PowerRange { max, min }
 }
 
 pub fn entry_of(s: &[u8]) -> RosterEntry
@@ -187,14 +177,9 @@ fn u32_in(s: &[u8], at: usize) -> u32
 pub fn pair_at(z: &[u8], j: u16) -> Pair
     ensures { result ≡ pair_at z.now j }
 {
-    let at = PAIRS_START + PAIR_SIZE * (j as usize);
-    if at + PAIR_SIZE <= z.len() {
-        let end = Minute(u32_in(z, at));
-        let power = Kilowatt(u32_in(z, at + 4));
-        return Pair { end, power };
-    }
-    let end = minute_at(z, at);
-    let power = kilowatt_at(z, at + 4);
+    let pair = bytes_at::<PAIR_SIZE>(z, PAIRS_START + PAIR_SIZE * (j as usize));
+    let end = minute_at(&pair, 0);
+    let power = kilowatt_at(&pair, 4);
     Pair { end, power }
 }
 

@@ -1,7 +1,8 @@
+use Rattle.std.proofs.Common.{arith, add-zero}
+use Rattle.fields.proofs.Numbers.{uint-copied}
 use Rattle.block.proofs.pair_at.Goals as goal
 
-pub returns-then-at-z : goal.returns-then-at-z
-returns-then-at-z c = cc
-
 pub returns : goal.returns
-returns c = cc
+returns c =
+    let copied = c.bytes_at-pair.ensures in
+    rw (c.minute_at-end.ensures, c.kilowatt_at-power.ensures, uint-copied 4 _ _ _ 8 copied 0 (omega arith), uint-copied 4 _ _ _ 8 copied 4 (omega arith), add-zero)
