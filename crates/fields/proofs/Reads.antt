@@ -1,4 +1,4 @@
--- Zeros with a list put at their start are that list as it is read. Assumes nothing.
+-- A list as it is read from a place on: what there is of it, and zeros. Assumes nothing.
 use Rattle.std.proofs.Common.{◌≡◌, ℕ, zero, suc, ◌+◌, ◌-◌, ◌≤◌, ◌<◌, min, List, [], ◌++◌, refl, ap, sym, ◌∙◌, length, take, drop, get_or, length-drop, arith, add-one}
 use Rattle.std.proofs.Math.ListN.{replicate, drop_of_length-le, get_or-eq_default}
 use Rattle.std.proofs.Math.Seq.{drop-cons, take_all, get_or-drop}
@@ -42,42 +42,6 @@ series-padded : (s : List ℕ) (at n : ℕ) → series (u8_at s) at n ≡ take n
 series-padded s at zero = none s at
 series-padded s at (suc n) =
     ⊎_elim (there s at n (series-padded s (at + 1) n)) (past s at n (series-padded s (at + 1) n)) (lt-or-le at (length s))
-
--- as many as there are, and no more than n
-as-long : (s : List ℕ) (n m : ℕ) → m ≡ min (length s) n → take m s ++ replicate (n - m) 0 ≡ take n s ++ replicate (n - length s) 0
-as-long s n m e = ⊎_elim shorter longer (lt-or-le (length s) n) where
-  shorter : length s < n → take m s ++ replicate (n - m) 0 ≡ take n s ++ replicate (n - length s) 0
-  shorter l =
-      let k : m ≡ length s = omega arith in
-      let a : length s ≤ n = omega arith in
-      let b : length s ≤ length s = omega arith in
-      rw (k, take_all n s a, take_all (length s) s b)
-
-  longer : n ≤ length s → take m s ++ replicate (n - m) 0 ≡ take n s ++ replicate (n - length s) 0
-  longer l =
-      let k : m ≡ n = omega arith in
-      let d : n - length s ≡ n - n = omega arith in
-      rw (k, d)
-
-module _ (s : List ℕ) (n : ℕ) (z : List ℕ) (zeros : z ≡ replicate n 0) (m : ℕ) (fewer : m ≡ min (length s) n) where
-  long : length z ≡ n
-  long = ap length zeros ∙ length-replicate n 0
-
-  taken : length (take m s) ≡ m
-  taken = length-take-le m s (omega arith)
-
-  behind : drop (0 + length (take m s)) z ≡ replicate (n - m) 0
-  behind = rw (taken, zero-add, zeros) (drop-replicate m n 0)
-
-  put-there : put z 0 s ≡ series (u8_at s) 0 n
-  unfolding put
-  put-there =
-      let a : m ≡ min (length s) (length z - 0) = omega (arith, long) in
-      let r : 0 + length (take m s) ≤ length z = omega (arith, long, taken) in
-      sym (put-fitting s z 0 m a) ∙ sets-eq (take m s) z 0 r ∙ rw behind (as-long s n m fewer ∙ sym (rw sub-zero at (series-padded s 0 n)))
-
-pub zeros-put : (s : List ℕ) (n : ℕ) → put (replicate n 0) 0 s ≡ series (u8_at s) 0 n
-zeros-put s n = put-there s n (replicate n 0) refl (min (length s) n) refl
 
 -- the elements from `at` on, read in what is there
 module _ (s rest : List ℕ) (at : ℕ) (is-rest : rest ≡ drop at s) where
