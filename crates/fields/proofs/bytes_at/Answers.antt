@@ -1,4 +1,4 @@
-use Rattle.fields.proofs.Reads.{from-chunk, from-padded}
+use Rattle.fields.proofs.Rests.{from-chunk, from-padded}
 use Rattle.fields.proofs.bytes_at.Goals as goal
 
 pub returns-in-Some : goal.returns-in-Some
