@@ -1,13 +1,14 @@
 // A unit's block and the roster: decoded, and question 1.
 #![tactic(auto)]
 
-ghost use Rattle.std.specs.Prelude.{◌≡◌, not, ◌||◌, List, ℕ, ◌+◌, ◌*◌, ◌≤◌, ◌<◌, length, drop};
+ghost use Rattle.std.specs.Prelude.{◌≡◌, Bool, not, ◌||◌, List, ℕ, ◌+◌, ◌*◌, ◌≤◌, ◌<◌, length, drop};
+ghost use Rattle.std.proofs.Common.{lit≤};
 ghost use Rattle.fields.specs.Fields.{u32_at};
 ghost use Rattle.fields.specs.Lists.{all, series, part, put};
 ghost use Rattle.quantities.specs.Quantities.{kilowatt_at};
 ghost use Rattle.rules.specs.declared.Record.{Record};
 ghost use Rattle.rules.specs.declared.UnitHead.{UnitHead};
-ghost use Rattle.rules.specs.Roster.{most_units, entry_size, powers_at, entry_of, entry_good, piece, roster_good};
+ghost use Rattle.rules.specs.Roster.{most_units, entry_size, powers_at, entry_of, entry_good, piece, pieces_pass, roster_good};
 ghost use Rattle.rules.specs.Block.{pairs_start, pair_start, slot_size, slot_count, block_size, zeros, zeros_at, unit_head, HeadFits, slot_at, used, record_in, stored_count};
 ghost use Rattle.rules.specs.Whole.{records_apart, slot_whole, slots_apart, block_whole, register_whole};
 ghost use Rattle.rules.specs.After.{put_row};
@@ -16,7 +17,7 @@ ghost use Rattle.block.specs.Codec.{head_fields_end, slot_fields_end, RecordFits
 ghost use Rattle.block.specs.declared.Pair.{Pair};
 ghost use Rattle.block.specs.Slot.{stretch_size, pair_at, ends_rise, PowersWithin, pairs_rise, holds_alone, head_whole, FreeFrom};
 
-use fields::{bytes_at, put_u8, put_u16, u8_at, u16_at};
+use fields::{bytes_at, put_bytes, put_u8, put_u16, u8_at, u16_at};
 use quantities::{Kilowatt, Minute, Period, kilowatt_at, minute_at, put_kilowatt, put_minute};
 use records::{
     OFF_GRID, STOP, choose, fields_in_range, has_begun, is_levelled, kind_allows, within,
@@ -424,29 +425,86 @@ pub fn block_whole(unit: u16, b: &[u8]) -> bool
     slots_apart(b)
 }
 
-fn blocks_whole(register: &[u8], n: u16) -> bool
+// What stands in pieces of one size, and when one is good.
+trait Pieces {
+    ghost SIZE: { ℕ };
+
+    ghost good: { ℕ → List ℕ → Bool };
+
+    ghost size_in_range: { (1 ≤ SIZE) × (SIZE ≤ block_size) };
+
+    const SIZE: usize;
+
+    fn is_good(number: u16, piece: &[u8]) -> bool
+        ensures { result ≡ good number piece.now };
+}
+
+// The blocks of a register.
+struct Blocks;
+
+impl Pieces for Blocks {
+    ghost SIZE = { block_size };
+
+    ghost good = { block_whole };
+
+    ghost size_in_range = { (lit≤ tt, lit≤ tt) };
+
+    const SIZE: usize = BLOCK_SIZE;
+
+    fn is_good(number: u16, piece: &[u8]) -> bool {
+        block_whole(number, piece)
+    }
+}
+
+// The entries of a roster.
+struct Entries;
+
+impl Pieces for Entries {
+    ghost SIZE = { entry_size };
+
+    ghost good = { λ number entry. entry_good entry };
+
+    ghost size_in_range = { (lit≤ tt, lit≤ tt) };
+
+    const SIZE: usize = ENTRY_SIZE;
+
+    fn is_good(_number: u16, piece: &[u8]) -> bool {
+        entry_good(piece)
+    }
+}
+
+fn each_good<P: Pieces>(s: &[u8], n: u16) -> bool
     requires { n ≤ most_units }
-    ensures { result ≡ all (λ u. block_whole u (piece block_size register.now u)) (series (λ u. u) 1 n) }
+    ensures { result ≡ all (λ u. P.good u (piece P.SIZE s.now u)) (series (λ u. u) 1 n) }
 {
+    let size = P::SIZE;
     for i in 0..n {
-        let b = slice_at(register, BLOCK_SIZE * (i as usize), BLOCK_SIZE);
-        if !block_whole(i + 1, b) {
+        let piece = slice_at(s, size * (i as usize), size);
+        if !P::is_good(i + 1, piece) {
             return false;
         }
     }
     true
 }
 
+// 1 to 64 pieces, each good.
+fn pieces_good<P: Pieces>(s: &[u8]) -> bool
+    ensures { result ≡ pieces_pass P.SIZE P.good s.now }
+{
+    let size = P::SIZE;
+    let n = s.len() / size;
+    if (s.len() % size == 0) & ((1 <= n) & (n <= MOST_UNITS)) {
+        each_good::<P>(s, n as u16)
+    } else {
+        false
+    }
+}
+
 // Question 1.
 pub fn register_whole(register: &[u8]) -> bool
     ensures { result ≡ register_whole register.now }
 {
-    let n = register.len() / BLOCK_SIZE;
-    if (register.len() % BLOCK_SIZE == 0) & ((1 <= n) & (n <= MOST_UNITS)) {
-        blocks_whole(register, n as u16)
-    } else {
-        false
-    }
+    pieces_good::<Blocks>(register)
 }
 
 // A good roster entry.
@@ -462,37 +520,18 @@ pub fn entry_good(s: &[u8]) -> bool
         & records::powers_in_order(e.kind, e.powers)
 }
 
-fn entries_good(roster: &[u8], n: u16) -> bool
-    requires { n ≤ most_units }
-    ensures { result ≡ all (λ u. entry_good (piece entry_size roster.now u)) (series (λ u. u) 1 n) }
-{
-    for i in 0..n {
-        if !entry_good(slice_at(roster, ENTRY_SIZE * (i as usize), ENTRY_SIZE)) {
-            return false;
-        }
-    }
-    true
-}
-
 // Question 20: 1 to 64 good entries.
 pub fn roster_good(roster: &[u8]) -> bool
     ensures { result ≡ roster_good roster.now }
 {
-    let n = roster.len() / ENTRY_SIZE;
-    if (roster.len() % ENTRY_SIZE == 0) & ((1 <= n) & (n <= MOST_UNITS)) {
-        entries_good(roster, n as u16)
-    } else {
-        false
-    }
+    pieces_good::<Entries>(roster)
 }
 
 // Every byte becomes 0.
 pub fn clear(b: &mut [u8])
     ensures { b.new ≡ zeros (length b.old) }
 {
-    for i in 0..b.len() {
-        b[i] = 0;
-    }
+    b.fill(0);
 }
 
 fn put_unit(b: &mut [u8], unit: u16, owner: u16, kind: u8)
@@ -551,9 +590,7 @@ fn put_codes(z: &mut [u8], r: Record)
 fn put_identifier(z: &mut [u8], identifier: [u8; 16])
     ensures { z.new ≡ put z.old 8 identifier }
 {
-    for j in 0..16usize {
-        put_u8(z, 8 + j, identifier[j]);
-    }
+    put_bytes(z, 8, &identifier);
 }
 
 fn put_times(z: &mut [u8], r: Record, count: u16)
