@@ -1,57 +1,53 @@
--- Zeros, one stretch after the other. Assumes nothing.
-use Prim.Native.Nat.{ℕ, zero, suc, ◌+◌, ◌-◌, ◌≤◌, ◌<◌}
-use mathlib.Core.Path.{◌≡◌, refl, ap, sym, ◌∙◌}
-use mathlib.Core.Bool.{Bool, true, ◌&&◌}
-use mathlib.Core.List.{List}
-use native.Mathlib.Nat.{zero-add, add-zero}
-use native.Mathlib.Omega.{arith}
-use lib.Dec.{eqb}
-use lib.ListN.{length, take, drop}
+-- Zeros: all bytes as one number of their bits, and one stretch after the other. Assumes nothing.
+use Rattle.std.proofs.Common.{◌≡◌, ℕ, zero, suc, ◌+◌, ◌*◌, ◌-◌, ◌/◌, ◌≤◌, ◌<◌, Bool, List, [], ap, sym, ◌∙◌, length, take, drop, get_or, length-drop, arith, add-one, zero-add}
+use native.Mathlib.Nat.{mul-zero, mul-suc}
+use Rattle.std.proofs.Math.ListN.{drop_of_length-le}
+use Rattle.std.proofs.Math.Seq.{drop-cons, drop-drop, take_all}
+use Rattle.std.specs.List.{fold}
+use Rattle.std.specs.Simd.{first_chunks}
+use mathlib.Core.Bool.{◌&&◌, and_assoc, and-true}
 use lib.Bits.{bit_or}
-use Rattle.fields.specs.Fields.{u8_at}
+use lib.Dec.{eqb}
 use Rattle.fields.specs.Lists.{all, series, part}
-use Rattle.fields.proofs.Tests.{Tested, tested-more, tested-all}
 use Rattle.rules.specs.Block.{zeros_at}
+use Rattle.block.specs.Slot.{stretch_size}
 use Rattle.block.proofs.Cut.{zeros-part}
 use Rattle.block.proofs.FreeSlots.{no_bits, zeros-cut}
 
-all-shifted : (p : ℕ → Bool) (k i n : ℕ) → all (λ j. p (k + j)) (series (λ j. j) i n) ≡ all p (series (λ j. j) (k + i) n)
-unfolding all series
-all-shifted p k i zero = refl
-all-shifted p k i (suc n) =
-    let e : k + (i + 1) ≡ k + i + 1 = omega arith in
-    rw (all-shifted p k (i + 1) n, e)
+bits-from : (s : List ℕ) (n at a : ℕ) → at + n ≡ length s → eqb (fold (λ bits b. bit_or bits b) a (drop at s)) 0 ≡ (eqb a 0 && zeros_at s at n)
+unfolding zeros_at all series
+bits-from s zero at a e = (let h : length s ≤ at = omega arith in rw (drop_of_length-le s h, and-true))
+bits-from s (suc n) at a e =
+    rw (drop-cons s at 0 (omega arith), ← add-one at, bits-from s n (at + 1) (bit_or a (get_or s at 0)) (omega arith), no_bits a (get_or s at 0))
+    (and_assoc (eqb a 0) (eqb (get_or s at 0) 0) _)
 
--- the bytes of a stretch, each in its turn
-module _ (z : List ℕ) (at n : ℕ) where
-  abbrev pub zero-from : ℕ → Bool
-  zero-from j = eqb (u8_at z (at + j)) 0
+pub bits-zero : (s : List ℕ) {bits : ℕ} → bits ≡ fold (λ bits b. bit_or bits b) 0 s → eqb bits 0 ≡ zeros_at s 0 (length s)
+bits-zero s e = ap (λ (n : ℕ). eqb n 0) e ∙ bits-from s (length s) 0 0 (zero-add _)
 
-  pub stretch-more : (bits : ℕ) {i : ℕ} (v : ℕ) → Tested zero-from (λ j. j) n (eqb bits 0) i → i < n → v ≡ u8_at z (at + i)
-      → Tested zero-from (λ j. j) n (eqb (bit_or bits v) 0) (i + 1)
-  stretch-more bits v t l e = rw (no_bits bits v) (tested-more t l (rw e))
+-- chunk i of n elements
+pub chunk-at : (n k i : ℕ) (s : List ℕ) → i < k → get_or (first_chunks n k s) i [] ≡ part s (n * i) n
+unfolding part
+chunk-at n zero i s h = absurd (omega arith)
+chunk-at n (suc k) zero s h = rw mul-zero
+chunk-at n (suc k) (suc i) s h =
+    chunk-at n k i (drop n s) (omega arith) ∙ ap (take n) (rw (drop-drop (n * i) n s, mul-suc n i) (ap (λ (j : ℕ). drop j s) (omega arith)))
 
-  pub stretch-all : {i : ℕ} {ok : Bool} → Tested zero-from (λ j. j) n ok i → n ≤ i → ok ≡ zeros_at z at n
-  unfolding zeros_at
-  stretch-all t h =
-      tested-all t h ∙ all-shifted (λ j. eqb (u8_at z j) 0) at 0 n
-      ∙ ap (λ (k : ℕ). all (λ j. eqb (u8_at z j) 0) (series (λ j. j) k n)) (add-zero at)
+-- one stretch more, and the rest after all
+module _ (s : List ℕ) {chunks : List (List ℕ)} (front : chunks ≡ first_chunks stretch_size (length s / stretch_size) s) where
+  pub stretch-more : (i : ℕ) {ok r : Bool} → ok ≡ zeros_at s 0 (stretch_size * i) → i < length s / stretch_size
+      → r ≡ zeros_at (get_or chunks i []) 0 (length (get_or chunks i [])) → (ok && r) ≡ zeros_at s 0 (stretch_size * (i + 1))
+  stretch-more i e h q =
+      let k : stretch_size * (i + 1) ≡ stretch_size * i + stretch_size = omega arith in
+      let z : get_or chunks i [] ≡ part s (stretch_size * i) stretch_size = rw front (chunk-at stretch_size (length s / stretch_size) i s h) in
+      rw (e, q ∙ zeros-part s (stretch_size * i) stretch_size z, k) (sym (rw zero-add at (zeros-cut s 0 (stretch_size * i) stretch_size)))
 
--- one stretch more, and the rest
-module _ (z : List ℕ) where
-  pub zeros-none : true ≡ zeros_at z 0 0
-  unfolding zeros_at all series
-  zeros-none = refl
-
-  pub zeros-then : (at n : ℕ) {ok r : Bool} → ok ≡ zeros_at z 0 at → r ≡ zeros_at z at n → (ok && r) ≡ zeros_at z 0 (at + n)
-  zeros-then at n e f =
-      rw (e, f) (sym (zeros-cut z 0 at n ∙ ap (λ (k : ℕ). zeros_at z 0 at && zeros_at z k n) (zero-add at)))
-
-  -- what `&z[at..]` holds
-  pub zeros-last : (at : ℕ) {ok r : Bool} → at ≤ length z → ok ≡ zeros_at z 0 at
-      → r ≡ zeros_at (take (length z - at) (drop at z)) 0 (length (take (length z - at) (drop at z)))
-      → (ok && r) ≡ zeros_at z 0 (length z)
+  pub stretches-all : (i : ℕ) {rest : List ℕ} {ok r : Bool} → ok ≡ zeros_at s 0 (stretch_size * i) → i ≡ length s / stretch_size
+      → rest ≡ drop (length s / stretch_size * stretch_size) s → r ≡ zeros_at rest 0 (length rest) → (ok && r) ≡ zeros_at s 0 (length s)
   unfolding part
-  zeros-last at l e f =
-      let all : at + (length z - at) ≡ length z = omega arith in
-      zeros-then at (length z - at) e (f ∙ zeros-part z at (length z - at) refl) ∙ ap (zeros_at z 0) all
+  stretches-all i {rest} e j back q =
+      let at : ℕ = stretch_size * i in
+      let m : ℕ = length s - at in
+      let turned : length s / stretch_size * stretch_size ≡ at = omega arith in
+      let all : at + m ≡ length s = omega arith in
+      let cut : rest ≡ take m (drop at s) = back ∙ rw turned (sym (take_all m (drop at s) (rw (length-drop at s) (omega arith)))) in
+      rw (e, q ∙ zeros-part s at m cut) (sym (rw zero-add at (zeros-cut s 0 at m)) ∙ ap (zeros_at s 0) all)

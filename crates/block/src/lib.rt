@@ -184,38 +184,23 @@ pub fn pair_at(z: &[u8], j: u16) -> Pair
     Pair { end, power }
 }
 
-// A number of bytes that the compiler knows, so that it makes one run of wide loads of them.
-fn stretch_zero(z: &[u8], at: usize) -> bool
-    requires { at + stretch_size ≤ length z.now }
-    ensures { result ≡ zeros_at z.now at stretch_size }
-{
-    let mut bits = 0u8;
-    for i in 0..STRETCH_SIZE {
-        bits = bits | z[at + i];
-    }
-    bits == 0
-}
-
-fn each_zero(z: &[u8]) -> bool
+// One test after all bytes, which are read in wide loads.
+fn is_zero(z: &[u8]) -> bool
     ensures { result ≡ zeros_at z.now 0 (length z.now) }
 {
-    let mut bits = 0u8;
-    for i in 0..z.len() {
-        bits = bits | z[i];
-    }
-    bits == 0
+    z.iter().fold(0, |bits, b| bits | *b) == 0
 }
 
+// The compiler knows a stretch's size, so that it makes one run of loads of it.
 fn all_zero(z: &[u8]) -> bool
     ensures { result ≡ zeros_at z.now 0 (length z.now) }
 {
-    let mut at = 0;
+    let (stretches, rest) = z.as_chunks::<STRETCH_SIZE>();
     let mut ok = true;
-    while STRETCH_SIZE <= z.len() - at {
-        ok = ok & stretch_zero(z, at);
-        at += STRETCH_SIZE;
+    for stretch in stretches {
+        ok = ok & is_zero(stretch);
     }
-    ok & each_zero(&z[at..])
+    ok & is_zero(rest)
 }
 
 // A byte past the end counts as 0.

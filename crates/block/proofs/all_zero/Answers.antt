@@ -1,12 +1,15 @@
-use native.Mathlib.Omega.{arith}
-use Rattle.block.proofs.ZeroStretches.{zeros-none, zeros-then, zeros-last}
+use Rattle.std.proofs.Common.{arith, refl}
+use Rattle.rules.specs.Block.{zeros_at}
+use Rattle.fields.specs.Lists.{all, series}
+use Rattle.block.proofs.ZeroStretches.{stretch-more, stretches-all}
 use Rattle.block.proofs.all_zero.Goals as goal
 
-pub loop-at-init : goal.loop-at-init
-loop-at-init c = (omega arith, zeros-none _)
+pub loop-stretch-init : goal.loop-stretch-init
+unfolding zeros_at all series
+loop-stretch-init c = refl
 
-pub loop-at-preserved : goal.loop-at-preserved
-loop-at-preserved c = (omega arith, zeros-then _ _ _ c.loop-at.invariant.1 c.stretch_zero-ok.ensures)
+pub loop-stretch-preserved : goal.loop-stretch-preserved
+loop-stretch-preserved c = stretch-more c.args.z.now c.as_chunks.ensures.front _ c.loop-stretch.invariant (omega arith) c.is_zero-ok.ensures
 
 pub returns : goal.returns
-returns c = zeros-last _ _ c.loop-at.invariant.0 c.loop-at.invariant.1 c.each_zero.ensures
+returns c = stretches-all c.args.z.now c.as_chunks.ensures.front _ c.loop-stretch.invariant (omega arith) c.as_chunks.ensures.back c.is_zero.ensures
