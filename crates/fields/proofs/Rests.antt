@@ -1,6 +1,8 @@
 -- The elements of a list from a place on, read in what is there. Assumes nothing.
 use Rattle.std.proofs.Common.{◌≡◌, ℕ, zero, suc, ◌+◌, ◌-◌, ◌≤◌, List, refl, sym, ◌∙◌, ap, length, take, drop, get_or, length-drop, arith, add-zero, add-one}
 use Rattle.std.proofs.Math.Seq.{drop-cons, get_or-drop}
+use Rattle.std.specs.Array.{IsFirstChunk}
+use Rattle.std.proofs.Common.{Option, Some, None, MatchOption, IfSome, Bor, ◌<◌}
 use Rattle.fields.specs.Lists.{series}
 use Rattle.fields.specs.Fields.{u8_at}
 
@@ -28,3 +30,9 @@ module _ (s rest : List ℕ) (at : ℕ) (is-rest : rest ≡ drop at s) where
 
   pub from-padded : (n : ℕ) (bytes : List ℕ) → bytes ≡ series (u8_at rest) 0 n → bytes ≡ series (u8_at s) at n
   from-padded n bytes e = e ∙ rw add-zero at (rest-read 0 n)
+
+-- what a first chunk is, where there is one
+pub chunk-read : (s rest : List ℕ) (at n : ℕ) → rest ≡ drop at s → (o : Option (Bor (List ℕ)))
+    → MatchOption o (length rest < n) (λ y. IsFirstChunk rest y.now n) → IfSome o (λ y. y.now ≡ series (u8_at s) at n)
+chunk-read s rest at n e (Some y) h = from-chunk s rest at e n y.now h.enough h.same
+chunk-read s rest at n e None h = tt
