@@ -1,10 +1,15 @@
-use Rattle.row.proofs.Rows.{moves, keeps}
+use Rattle.std.proofs.Common.{rules}
+use Rattle.fields.specs.Lists.{pick}
 use Rattle.row.proofs.transition.Goals as goal
 
-pub returns-then-row-start : goal.returns-then-row-start
-returns-then-row-start c = moves _ c.args.h
-    c.leads_to-state.ensures c.qualification_after.ensures c.if-row-start.true
+pub returns-then-le : goal.returns-then-le
+unfolding pick
+returns-then-le c = search rules
+
+pub returns-in_err-state : goal.returns-in_err-state
+unfolding pick
+returns-in_err-state c = search rules
 
 pub returns : goal.returns
-returns c = keeps _ c.args.h c.leads_to-state.ensures
-    c.if-row-start.false
+unfolding pick
+returns c = search rules
