@@ -5,16 +5,16 @@ use mathlib.Core.Bool.{Bool, true, false, not, ◌&&◌, ◌||◌, false≢true}
 use mathlib.Core.List.{List, ◌++◌}
 use native.Mathlib.Omega.{arith}
 use native.Mathlib.Nat.{zero-add}
-use lib.Dec.{eqb}
+use lib.Dec.{ltb, eqb}
 use lib.ListN.{length, get_or}
-use borrow.Author.Tests.{eq-eqb, le-leb, eqb-true}
+use borrow.Author.Tests.{eq-eqb, ne_eqb, le-leb, eqb-true, ltb-false}
 use Rattle.fields.specs.Lists.{pick, series, part}
 use Rattle.fields.proofs.Bools.{and_right}
 use Rattle.fields.proofs.Joined.{joined_same}
 use Rattle.fields.proofs.Tests.{series-at}
 use Rattle.report.specs.Report.{most_parts, head_of, parts_of, part_count_of}
 use Rattle.rules.specs.declared.Row.{Row}
-use Rattle.rules.specs.Block.{head_size, slot_size, slot_count, block_size, zeros, unit_head, slot_at, used}
+use Rattle.rules.specs.Block.{head_size, slot_size, slot_count, block_size, zeros, unit_head, slot_at, used, slot_numbered, is_slot}
 use Rattle.rules.specs.Codes.{W1, create, change, withdraw}
 use Rattle.rules.specs.Records.{begun, holds_state}
 use Rattle.rules.specs.Questions.{record_of, is_event, is_withdrawal, is_operation, stamp_of, held_record, begins, changes_state, has_transition, live, stays}
@@ -52,6 +52,16 @@ module _ (b s : List ℕ) (p : Passed b s) (changes : changes_state b s ≡ true
       p.q18 in
       rw asked
 
+-- a slot below 8 is the one of a number, or it isn't
+pub numbered : (i n : ℕ) → i < slot_count → is_slot (slot_numbered n) i ≡ eqb i n
+unfolding pick
+numbered i n h = by-case (ltb n slot_count) refl where
+  by-case : (t : Bool) → ltb n slot_count ≡ t → is_slot (slot_numbered n) i ≡ eqb i n
+  by-case true e = rw e
+  by-case false e =
+      let past = ltb-false n slot_count e in
+      rw (e, ne_eqb i n (λ q. omega arith))
+
 module _ (b s : List ℕ) (plan : Plan) where
   rows_same : Passed b s → (t : Bool) → changes_state b s ≡ t
       → head_made (part b 0 head_size) t (row_planned b s) (stamp_of s) ≡ head_made (part b 0 head_size) t (row_after b s) (stamp_of s)
@@ -76,18 +86,18 @@ module _ (b s : List ℕ) (plan : Plan) where
   slot-left free v h false false e f = free.zero v h e
   slot-left free v h false true e f = absurd (false≢true (stays-used v e ∙ f))
 
-  slot_same : FreeSlots b → plan.cleared ≡ series (cleared b s) 0 slot_count → plan.written ≡ slot_written b s → (v : ℕ)
+  slot_same : FreeSlots b → plan.cleared ≡ series (cleared b s) 0 slot_count → plan.written ≡ slot_numbered (slot_written b s) → (v : ℕ)
       → v < slot_count → slot_planned b s plan v ≡ slot_after b s v
   unfolding slot_made slot_after
   slot_same free k w v h =
       let e : get_or plan.cleared v false ≡ cleared b s v =
       ap (λ (l : List Bool). get_or l v false) k ∙ series-at (cleared b s) 0 slot_count v false h ∙ ap (cleared b s) (zero-add v) in
-      rw (w, e)
+      rw (w, numbered v (slot_written b s) h, e)
       (ap (λ (z : List ℕ). pick (eqb v (slot_written b s)) (slot_bytes (record_of s) (parts_of s)) z)
       (slot-left free v h (used (slot_at b v)) (stays b s v) refl refl))
 
   pub plan_after : length b ≡ block_size → FreeSlots b → part_count_of s ≤ most_parts → plan.cleared ≡ series (cleared b s) 0 slot_count
-      → plan.written ≡ slot_written b s → plan.changes ≡ changes_state b s → refusal_number b s ≡ 0
+      → plan.written ≡ slot_numbered (slot_written b s) → plan.changes ≡ changes_state b s → refusal_number b s ≡ 0
       → plan_applied b s plan ≡ block_after b s
   unfolding plan_applied block_after pick
   plan_after size free few k w c zero-now =
