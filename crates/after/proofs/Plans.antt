@@ -5,9 +5,9 @@ use mathlib.Core.Bool.{Bool, true, false, not, ◌&&◌, ◌||◌, false≢true}
 use mathlib.Core.List.{List, ◌++◌}
 use native.Mathlib.Omega.{arith}
 use native.Mathlib.Nat.{zero-add}
-use lib.Dec.{ltb, eqb}
+use lib.Dec.{eqb}
 use lib.ListN.{length, get_or}
-use borrow.Author.Tests.{eq-eqb, ne_eqb, le-leb, eqb-true, ltb-false}
+use borrow.Author.Tests.{eq-eqb, le-leb, eqb-true}
 use Rattle.fields.specs.Lists.{pick, series, part}
 use Rattle.fields.proofs.Bools.{and_right}
 use Rattle.fields.proofs.Joined.{joined_same}
@@ -22,6 +22,7 @@ use Rattle.rules.specs.After.{row_after, head_after, slot_bytes, slot_written, c
 use Rattle.rules.specs.Judge.{refusal_number}
 use Rattle.rules.proofs.Afterwards.{event-creates}
 use Rattle.rules.proofs.Passed.{Passed, passed}
+use Rattle.rules.proofs.Slots.{numbered}
 use Rattle.after.specs.declared.Plan.{Plan}
 use Rattle.after.specs.Plan.{FreeSlots, slot_made, slot_planned, row_planned, head_made, head_planned, plan_applied}
 
@@ -51,16 +52,6 @@ module _ (b s : List ℕ) (p : Passed b s) (changes : changes_state b s ≡ true
       let asked : has_transition (unit_head b).row (head_of s) ≡ true = rw (no-withdrawal (is_withdrawal s) refl, changes) at
       p.q18 in
       rw asked
-
--- a slot below 8 is the one of a number, or it isn't
-pub numbered : (i n : ℕ) → i < slot_count → is_slot (slot_numbered n) i ≡ eqb i n
-unfolding pick
-numbered i n h = by-case (ltb n slot_count) refl where
-  by-case : (t : Bool) → ltb n slot_count ≡ t → is_slot (slot_numbered n) i ≡ eqb i n
-  by-case true e = rw e
-  by-case false e =
-      let past = ltb-false n slot_count e in
-      rw (e, ne_eqb i n (λ q. omega arith))
 
 module _ (b s : List ℕ) (plan : Plan) where
   rows_same : Passed b s → (t : Bool) → changes_state b s ≡ t
