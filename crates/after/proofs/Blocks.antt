@@ -20,7 +20,7 @@ use Rattle.fields.proofs.Tests.{series-length}
 use Rattle.report.specs.declared.Head.{Head}
 use Rattle.report.specs.Report.{most_parts, head_of, parts_of, part_count_of, part_at}
 use Rattle.rules.specs.declared.Row.{Row}
-use Rattle.rules.specs.Block.{head_size, slot_size, slot_count, block_size, slot_at}
+use Rattle.rules.specs.Block.{head_size, slot_size, slot_count, block_size, slot_at, is_slot}
 use Rattle.rules.specs.Questions.{record_of, stamp_of}
 use Rattle.rules.specs.After.{put_row}
 use Rattle.rules.proofs.Slots.{slot-length}
@@ -171,25 +171,25 @@ module _ (b s : List ℕ) (plan : Plan) where
       -- one slot more
       pub progress-more : (c : List ℕ) (i : ℕ) → c ≡ progress i → i < slot_count
           → put c (head_size + slot_size * i)
-          (slot_made s (eqb i plan.written) (get_or plan.cleared i false)
+          (slot_made s (is_slot plan.written i) (get_or plan.cleared i false)
           (part c (head_size + slot_size * i) slot_size)) ≡ progress (i + 1)
       progress-more c i e h =
           rw (e, slot-yet i h) (slot-put-in i h)
 
       -- what the loop's turn leaves, the slot lent and given back as vs
-      pub slot-turned : (c vs : List ℕ) (i : ℕ) → c ≡ progress i → i < slot_count
+      pub slot-turned : (c vs : List ℕ) (i : ℕ) {t : Bool} → t ≡ is_slot plan.written i → c ≡ progress i → i < slot_count
           → length vs ≡ length (take (head_size + slot_size * i + slot_size - (head_size + slot_size * i))
           (drop (head_size + slot_size * i) c))
-          → vs ≡ slot_made s (eqb i plan.written) (get_or plan.cleared i false)
+          → vs ≡ slot_made s t (get_or plan.cleared i false)
           (take (head_size + slot_size * i + slot_size - (head_size + slot_size * i)) (drop (head_size + slot_size * i) c))
           → take (head_size + slot_size * i) c ++
           (vs ++ drop (head_size + slot_size * i + slot_size - (head_size + slot_size * i))
           (drop (head_size + slot_size * i) c)) ≡ progress (i + 1)
-      slot-turned c vs i e h l f =
+      slot-turned c vs i {t} q e h l f =
           let n : length c ≡ block_size = ap length e ∙ progress-length i in
-          lent_back (slot_made s (eqb i plan.written) (get_or plan.cleared i false)) c (head_size + slot_size * i) slot_size vs
+          lent_back (slot_made s t (get_or plan.cleared i false)) c (head_size + slot_size * i) slot_size vs
           (omega arith) l f
-          ∙ progress-more c i e h
+          ∙ rw q (progress-more c i e h)
 
 -- the length of a part that is lent
 pub lent_length : (s : List ℕ) (at n : ℕ) → at + n ≤ length s → length (take (at + n - at) (drop at s)) ≡ n

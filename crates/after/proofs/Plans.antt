@@ -14,7 +14,7 @@ use Rattle.fields.proofs.Joined.{joined_same}
 use Rattle.fields.proofs.Tests.{series-at}
 use Rattle.report.specs.Report.{most_parts, head_of, parts_of, part_count_of}
 use Rattle.rules.specs.declared.Row.{Row}
-use Rattle.rules.specs.Block.{head_size, slot_size, slot_count, block_size, zeros, unit_head, slot_at, used}
+use Rattle.rules.specs.Block.{head_size, slot_size, slot_count, block_size, zeros, unit_head, slot_at, used, slot_numbered, is_slot}
 use Rattle.rules.specs.Codes.{W1, create, change, withdraw}
 use Rattle.rules.specs.Records.{begun, holds_state}
 use Rattle.rules.specs.Questions.{record_of, is_event, is_withdrawal, is_operation, stamp_of, held_record, begins, changes_state, has_transition, live, stays}
@@ -22,6 +22,7 @@ use Rattle.rules.specs.After.{row_after, head_after, slot_bytes, slot_written, c
 use Rattle.rules.specs.Judge.{refusal_number}
 use Rattle.rules.proofs.Afterwards.{event-creates}
 use Rattle.rules.proofs.Passed.{Passed, passed}
+use Rattle.rules.proofs.Slots.{numbered}
 use Rattle.after.specs.declared.Plan.{Plan}
 use Rattle.after.specs.Plan.{FreeSlots, slot_made, slot_planned, row_planned, head_made, head_planned, plan_applied}
 
@@ -76,18 +77,18 @@ module _ (b s : List ℕ) (plan : Plan) where
   slot-left free v h false false e f = free.zero v h e
   slot-left free v h false true e f = absurd (false≢true (stays-used v e ∙ f))
 
-  slot_same : FreeSlots b → plan.cleared ≡ series (cleared b s) 0 slot_count → plan.written ≡ slot_written b s → (v : ℕ)
+  slot_same : FreeSlots b → plan.cleared ≡ series (cleared b s) 0 slot_count → plan.written ≡ slot_numbered (slot_written b s) → (v : ℕ)
       → v < slot_count → slot_planned b s plan v ≡ slot_after b s v
   unfolding slot_made slot_after
   slot_same free k w v h =
       let e : get_or plan.cleared v false ≡ cleared b s v =
       ap (λ (l : List Bool). get_or l v false) k ∙ series-at (cleared b s) 0 slot_count v false h ∙ ap (cleared b s) (zero-add v) in
-      rw (w, e)
+      rw (w, numbered v (slot_written b s) h, e)
       (ap (λ (z : List ℕ). pick (eqb v (slot_written b s)) (slot_bytes (record_of s) (parts_of s)) z)
       (slot-left free v h (used (slot_at b v)) (stays b s v) refl refl))
 
   pub plan_after : length b ≡ block_size → FreeSlots b → part_count_of s ≤ most_parts → plan.cleared ≡ series (cleared b s) 0 slot_count
-      → plan.written ≡ slot_written b s → plan.changes ≡ changes_state b s → refusal_number b s ≡ 0
+      → plan.written ≡ slot_numbered (slot_written b s) → plan.changes ≡ changes_state b s → refusal_number b s ≡ 0
       → plan_applied b s plan ≡ block_after b s
   unfolding plan_applied block_after pick
   plan_after size free few k w c zero-now =

@@ -22,8 +22,6 @@ use Rattle.rules.specs.Block.{pairs_start, pair_size, pair_start, unit_head, slo
 use Rattle.rules.specs.Questions.{record_of, kilowatts, record_by}
 use Rattle.rules.specs.After.{pair_bytes, slot_bytes, put_row}
 use Rattle.rules.proofs.Slots.{pairs-length}
-use Rattle.row.specs.declared.RowStep.{RowStep}
-use Rattle.row.specs.Step.{step_of}
 use Rattle.block.specs.Codec.{codes_bytes, times_bytes, put_record, pair_bytes_of, put_last_stamp}
 use Rattle.after.specs.Plan.{slot_made, row_planned, head_made}
 
@@ -48,10 +46,6 @@ pub head-written : (z : List ℕ) (changes : Bool) (row : Row) (stamp : ℕ) {x 
     → y ≡ put_last_stamp x stamp → y ≡ head_made z changes row stamp
 unfolding head_made put_last_stamp
 head-written z changes row stamp e f = f ∙ ap (λ (l : List ℕ). put_last_stamp l stamp) e
-
-pub row_made : (b s : List ℕ) {u : UnitHead} {h : Head} {r : RowStep} → u ≡ unit_head b → h ≡ head_of s → r ≡ step_of u.row h
-    → r.row ≡ row_planned b s
-row_made b s {u} {h} {r} e f g = ap (λ (x : RowStep). x.row) g ∙ rw (e, f) refl
 
 -- one pair more
 abbrev pair_of : Part → List ℕ

@@ -4,7 +4,7 @@ use Rattle.fields.specs.Fields.{bytes_of}
 use Rattle.fields.specs.Lists.{pick, joined, part, put}
 use Rattle.report.specs.Report.{most_parts, head_of, parts_of, part_count_of}
 use Rattle.rules.specs.declared.Row.{Row}
-use Rattle.rules.specs.Block.{head_size, slot_size, slot_count, block_size, zeros, unit_head, slot_at, used}
+use Rattle.rules.specs.Block.{head_size, slot_size, slot_count, block_size, zeros, unit_head, slot_at, used, is_slot}
 use Rattle.rules.specs.Questions.{record_of, stamp_of}
 use Rattle.rules.specs.After.{put_row, slot_bytes}
 use Rattle.row.specs.Step.{row_stepped}
@@ -19,7 +19,7 @@ unfoldable pub slot_made : List ℕ → Bool → Bool → List ℕ → List ℕ
 slot_made s written cleared z = pick written (slot_bytes (record_of s) (parts_of s)) (pick cleared (zeros slot_size) z)
 
 abbrev pub slot_planned : List ℕ → List ℕ → Plan → ℕ → List ℕ
-slot_planned b s plan i = slot_made s (eqb i plan.written) (get_or plan.cleared i false) (slot_at b i)
+slot_planned b s plan i = slot_made s (is_slot plan.written i) (get_or plan.cleared i false) (slot_at b i)
 
 -- a head with its last stamp and, at a state change, its row
 unfoldable pub head_made : List ℕ → Bool → Row → ℕ → List ℕ

@@ -14,11 +14,11 @@ use quantities::Minute;
 use report::MOST_PARTS;
 use rules::Row;
 
-// The slots that are cleared, the slot written (8: none), and whether the row changes.
+// The slots that are cleared, the slot that is written, and whether the row changes.
 #[derive(Clone, Copy)]
 pub struct Plan {
     pub cleared: [bool; 8],
-    pub written: u8,
+    pub written: Option<u8>,
     pub changes: bool,
 }
 
@@ -67,7 +67,7 @@ fn set_slots(b: &mut [u8], report: &[u8], plan: Plan)
         set_slot(
             &mut b[a..e],
             report,
-            i == plan.written,
+            Some(i) == plan.written,
             plan.cleared[i as usize],
         );
     }
@@ -77,9 +77,9 @@ fn set_slots(b: &mut [u8], report: &[u8], plan: Plan)
 fn row_after(b: &[u8], report: &[u8]) -> Row
     ensures { result ≡ row_planned b.now report.now }
 {
-    let head = block::unit_head(b);
-    let row = head.row;
-    row::stepped(row, report::head_of(report)).row
+    let mut row = block::unit_head(b).row;
+    row::step(&mut row, report::head_of(report));
+    row
 }
 
 fn change_row(b: &mut [u8], changes: bool, row: Row)

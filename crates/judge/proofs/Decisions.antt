@@ -1,75 +1,90 @@
 -- What is decided of decoded values is what paper 01 decides of the block and the report. Assumes nothing.
-use Prim.Native.Nat.{ℕ, zero, suc, ◌+◌, ◌<◌}
+use Prim.Native.Nat.{ℕ, zero, suc, ◌+◌, ◌≤◌, ◌<◌}
 use mathlib.Core.Path.{◌≡◌, refl, ap, sym, ◌∙◌}
 use mathlib.Core.Bool.{Bool, true, false, not, ◌&&◌, ◌||◌}
-use mathlib.Core.List.{List, ◌∷◌}
+use mathlib.Core.List.{List, [], ◌∷◌}
 use native.Mathlib.Omega.{arith}
 use native.Mathlib.Nat.{zero-add}
 use lib.Dec.{ltb, eqb}
 use lib.ListN.{get_or}
-use borrow.Author.Tests.{eq-eqb, ne_eqb}
+use borrow.Author.Tests.{eq-eqb, ne_eqb, ltb-false}
+use Rattle.std.specs.Prelude.{Option, Result, Ok, Err, map, position, ⊤}
+use Rattle.std.specs.List.{list_any, list_all}
+use Rattle.std.specs.Option.{is_some, unwrap_or}
 use Rattle.fields.specs.Lists.{pick, all, series, seek}
-use Rattle.fields.proofs.Bools.{passed_over}
+use Rattle.fields.proofs.Bools.{passed_over, pick-elim}
 use Rattle.fields.proofs.Tests.{series-at}
 use Rattle.quantities.specs.declared.Minute.{Minute}
 use Rattle.report.specs.declared.Head.{Head}
 use Rattle.report.specs.declared.Part.{Part}
 use Rattle.report.specs.Report.{head_of, parts_of}
 use Rattle.rules.specs.declared.Record.{Record}
+use Rattle.rules.specs.declared.Refusal.{Refusal}
 use Rattle.rules.specs.declared.UnitHead.{UnitHead}
-use Rattle.rules.specs.Block.{slot_count, unit_head}
-use Rattle.rules.specs.Questions.{creation_head, record_by, record_at, holder, held_record, other, leaves, stays, free_slot, changes_by, changes_state, has_transition, question15, question16}
+use Rattle.rules.specs.Block.{slot_count, slot_numbered, unit_head}
+use Rattle.rules.specs.Questions.{creation_head, record_by, record_at, holder, held_record, other, leaves, stays, clash_closed, free_slot, changes_by, changes_state, question15, question16, question18, question19}
 use Rattle.rules.specs.Minutes.{FullRecord, reported_records, question17}
-use Rattle.rules.specs.After.{slot_written, cleared, some_slot}
-use Rattle.rules.specs.Judge.{skips, part_beside, validation_number, held_number, limit_number, refusal_number}
+use Rattle.rules.specs.After.{rewrites, slot_written, cleared, some_slot}
+use Rattle.rules.specs.Judge.{skips, asked, must, no_to, part_beside, validation_number, held_number, limit_number, refusal_number}
+use Rattle.rules.proofs.Slots.{numbered}
 use Rattle.levels.specs.Counted.{report_record, swept_records}
 use Rattle.validation.specs.declared.Validated.{Validated}
 use Rattle.validation.specs.Parts.{validated_of}
-use Rattle.judge.specs.declared.Decision.{Decision}
-use Rattle.judge.specs.declared.Survey.{Survey}
-use Rattle.judge.specs.Survey.{holder_of, slot_answers, answers_at, survey_of, free_among, some_of}
-use Rattle.judge.specs.Decided.{written_by, refused_decision, number_after, decided_by, limits_decided, decision_of}
+use Rattle.judge.specs.declared.SlotAnswers.{SlotAnswers}
+use Rattle.judge.specs.Survey.{holder_of, slot_answers, answers_at, survey_of, free_among}
+use Rattle.judge.specs.Decided.{◌then◌, written_by, holder_asked, limits_asked, limits_by, limits_decided, surveyed_decision, accepted_decision, decision_of}
 use Rattle.judge.proofs.Joins.{records-same}
 
--- who skips 15 or 16 skips 17, so that it need not be asked where one of them is answered no
-asked-last : (h : Head) (q15 q16 passed_over : Bool) → passed_over ≡ skips h 17 → (q17 q18 q19 : Bool)
-    → limit_number h q15 q16 (pick (q15 && q16 && not passed_over) q17 true) q18 q19 0 ≡ limit_number h q15 q16 q17 q18 q19 0
-unfolding limit_number pick
-asked-last h q15 q16 passed_over e q17 q18 q19 =
-    rw e (by-case (skips h 17) q15 q16 (pick (skips h 18 || q18) (pick (skips h 19 || q19) 0 19) 18))
-  where
-    by-case : (k a b : Bool) (rest : ℕ)
-        → ◌≡◌ {A = ℕ} (pick (k || a) (pick (k || b) (pick (k || pick (a && b && not k) q17 true) rest 17) 16) 15)
-        (pick (k || a) (pick (k || b) (pick (k || q17) rest 17) 16) 15)
-    by-case true a b rest = refl
-    by-case false false b rest = refl
-    by-case false true false rest = refl
-    by-case false true true rest = refl
+-- what a number hands on: at 0 the value, else the refusal
+unfoldable outcome : {A : Type 0} → ℕ → A → Result A Refusal
+outcome n d = pick (eqb n 0) (Ok d) (Err (no_to n))
 
--- questions 15 to 19 from what the code computes
-module _ (b s : List ℕ) (h : Head) (unit : UnitHead) (slot : ℕ) (changes deratings : Bool) {survey : Survey}
-    (asked-slots : survey ≡ survey_of b h slot changes) {free : ℕ} (lowest : free ≡ free_among survey.stays)
-    {passed_over : Bool} (skipped : passed_over ≡ skips h 17) {minutes moves : Bool}
-    (swept : minutes ≡ pick (survey.closed && deratings && not passed_over)
-    (question17 unit.kind unit.powers (swept_records b s survey.others true) h) true)
-    (stepped : moves ≡ has_transition unit.row h) {n : ℕ} (asked : n ≡ limit_number h survey.closed deratings minutes
-    (not changes || moves) (not (creation_head h) || ltb free slot_count) 0) where
-  number_is : n ≡ number_after b s h unit changes deratings (survey_of b h slot changes)
-  number_is =
-      let state = not changes || moves in
-      let room = not (creation_head h) || ltb free slot_count in
-      asked ∙ ap (λ (m : Bool). limit_number h survey.closed deratings m state room 0) swept
-      ∙ asked-last h survey.closed deratings passed_over skipped _ state room ∙ rw (stepped, lowest, asked-slots)
+outcome-passed : {A : Type 0} (n : ℕ) (d : A) {y : A} → outcome n d ≡ Ok y → n ≡ 0
+unfolding outcome pick
+outcome-passed zero d e = refl
+outcome-passed (suc n) d e = grind arith
 
-  pub limits-refuse : {d : Decision} → (n ≡ 0 → ⊥) → d ≡ refused_decision n 0 → d ≡ limits_decided b s h unit slot changes deratings
-  unfolding decided_by pick
-  limits-refuse ne e = e ∙ rw (← number_is, ne_eqb n 0 ne)
+outcome-stopped : {A : Type 0} (n : ℕ) (d : A) {x : Refusal} → outcome n d ≡ Err x → (n ≡ 0 → ⊥) × (x ≡ no_to n)
+unfolding outcome pick
+outcome-stopped zero d e = grind arith
+outcome-stopped (suc n) d e = (λ q. omega arith, grind arith)
 
-  pub limits-accept : {w : ℕ} {left : Bool} → (n ≡ 0) → w ≡ written_by h slot free → left ≡ some_of survey.leaves
-      → record { number = 0; part = 0; cleared = survey.cleared; written = w; changes = changes; left = left }
-      ≡ limits_decided b s h unit slot changes deratings
-  unfolding decided_by pick
-  limits-accept z w l = rw (← number_is, eq-eqb n 0 z, w, l, lowest, asked-slots)
+-- a question asked by number, and as code asks it
+asked-then : {A : Type 0} (h : Head) (n : ℕ) (yes-to : Bool) (next : ℕ) (d : A)
+    → outcome (asked h (suc n) yes-to next) d ≡ (must h (suc n) yes-to then outcome next d)
+unfolding outcome pick ◌then◌
+asked-then h n yes-to next d = by-case (skips h (suc n) || yes-to) refl where
+  by-case : (t : Bool) → (skips h (suc n) || yes-to) ≡ t
+      → outcome (asked h (suc n) yes-to next) d ≡ (must h (suc n) yes-to then outcome next d)
+  by-case true e = rw e
+  by-case false e = rw (e, ne_eqb (suc n) 0 (λ q. omega arith))
+
+-- of the last question
+asked-last : (h : Head) (n : ℕ) (yes-to : Bool) → outcome (asked h (suc n) yes-to 0) tt ≡ must h (suc n) yes-to
+unfolding outcome pick
+asked-last h n yes-to = by-case (skips h (suc n) || yes-to) refl where
+  by-case : (t : Bool) → (skips h (suc n) || yes-to) ≡ t → outcome (asked h (suc n) yes-to 0) tt ≡ must h (suc n) yes-to
+  by-case true e = rw e
+  by-case false e = rw (e, ne_eqb (suc n) 0 (λ q. omega arith))
+
+module _ (h : Head) (n : ℕ) (yes-to : Bool) (next : ℕ) {r : Result ⊤ Refusal} (e : outcome next tt ≡ r) where
+  link : outcome (asked h (suc n) yes-to next) tt ≡ (must h (suc n) yes-to then r)
+  link = asked-then h n yes-to next tt ∙ ap (λ (x : Result ⊤ Refusal). must h (suc n) yes-to then x) e
+
+holder-by : (last : Minute) (h : Head) (slot : ℕ) (held : Record)
+    → outcome (held_number last h slot held 0) tt ≡ holder_asked last h (ltb slot slot_count) held
+unfolding held_number holder_asked
+holder-by last h slot held = link h 9 _ _ (link h 10 _ _ (link h 11 _ _ (link h 12 _ _ (asked-last h 13 _))))
+
+limits-chain : (h : Head) (q15 q16 q17 q18 q19 : Bool) → outcome (limit_number h q15 q16 q17 q18 q19 0) tt
+    ≡ (must h 15 q15 then must h 16 q16 then must h 17 q17 then must h 18 q18 then must h 19 q19)
+unfolding limit_number
+limits-chain h q15 q16 q17 q18 q19 = link h 14 _ _ (link h 15 _ _ (link h 16 _ _ (link h 17 _ _ (asked-last h 18 _))))
+
+then-outcome : {A : Type 0} (n : ℕ) (d : A) → outcome n d ≡ (outcome n tt then Ok d)
+unfolding outcome pick ◌then◌
+then-outcome zero d = refl
+then-outcome (suc n) d = rw (ne_eqb (suc n) 0 (λ q. omega arith))
 
 -- a stage that is passed leads on, one that is not is the answer
 step : (n : ℕ) (q : Bool) (next y : ℕ) {x : ℕ} → x ≡ pick (eqb y 0) next y
@@ -110,52 +125,129 @@ unfolding limit_number
 limits-name-none h q15 q16 q17 q18 q19 =
     not-8 _ _ 15 (not-8 _ _ 16 (not-8 _ _ 17 (not-8 _ _ 18 (not-8 _ 0 19 refl refl) refl) refl) refl) refl
 
+outcome-no : {A : Type 0} (n : ℕ) (d : A) → (n ≡ 0 → ⊥) → Err (no_to n) ≡ outcome n d
+unfolding outcome pick
+outcome-no n d ne = rw (ne_eqb n 0 ne)
+
 -- the slots of the block and the report
+map-series : {A B : Type 0} (f : A → B) (g : ℕ → A) (i n : ℕ) → map f (series g i n) ≡ series (λ j. f (g j)) i n
+unfolding series
+map-series f g i zero = refl
+map-series f g i (suc n) = rw (map-series f g (i + 1) n)
+
+series-same : {A : Type 0} (f g : ℕ → A) (i n : ℕ) → ((j : ℕ) → j < i + n → f j ≡ g j) → series f i n ≡ series g i n
+unfolding series
+series-same f g i zero h = refl
+series-same f g i (suc n) h = rw (h i (omega arith), series-same f g (i + 1) n (λ j l. h j (omega arith)))
+
+-- one of them passes
+any-passes : {A : Type 0} (p : A → Bool) (g : ℕ → A) (i n : ℕ)
+    → list_any p (series g i n) ≡ not (all (λ j. not (p (g j))) (series (λ j. j) i n))
+unfolding series all
+any-passes p g i zero = refl
+any-passes p g i (suc n) = rw (any-passes p g (i + 1) n) (either (p (g i)) (all (λ j. not (p (g j))) (series (λ j. j) (i + 1) n))) where
+  either : (a b : Bool) → (a || not b) ≡ not (not a && b)
+  either true b = refl
+  either false b = refl
+
+first-of : (a b c d e f g h : Bool) → position (λ t. t) (a ∷ b ∷ c ∷ d ∷ e ∷ f ∷ g ∷ h ∷ [])
+    ≡ slot_numbered (pick a 0 (pick b 1 (pick c 2 (pick d 3 (pick e 4 (pick f 5 (pick g 6 (pick h 7 8))))))))
+unfolding pick
+first-of true b c d e f g h = refl
+first-of false true c d e f g h = refl
+first-of false false true d e f g h = refl
+first-of false false false true e f g h = refl
+first-of false false false false true f g h = refl
+first-of false false false false false true g h = refl
+first-of false false false false false false true h = refl
+first-of false false false false false false false true = refl
+first-of false false false false false false false false = refl
+
+there-is : (n : ℕ) → is_some (slot_numbered n) ≡ ltb n slot_count
+unfolding pick
+there-is n = by-case (ltb n slot_count) refl where
+  by-case : (t : Bool) → ltb n slot_count ≡ t → is_some (slot_numbered n) ≡ ltb n slot_count
+  by-case true e = rw e
+  by-case false e = rw e
+
+number-back : (n : ℕ) → n ≤ slot_count → unwrap_or (slot_numbered n) slot_count ≡ n
+unfolding pick
+number-back n most = by-case (ltb n slot_count) refl where
+  by-case : (t : Bool) → ltb n slot_count ≡ t → unwrap_or (slot_numbered n) slot_count ≡ n
+  by-case true e = rw e
+  by-case false e =
+      let past = ltb-false n slot_count e in
+      let last : slot_count ≡ n = omega arith in
+      rw e last
+
+picked : (t : Bool) (m n : ℕ) → slot_numbered (pick t m n) ≡ pick t (slot_numbered m) (slot_numbered n)
+unfolding pick
+picked true m n = refl
+picked false m n = refl
+
+seek-most : (p : ℕ → Bool) (i n : ℕ) → seek p i n ≤ i + n
+unfolding seek
+seek-most p i zero = omega arith
+seek-most p i (suc n) =
+    pick-elim (λ (m : ℕ). m ≤ i + suc n) (p i) (λ t. omega arith) (λ t. omega (arith, seek-most p (i + 1) n))
+
 module _ (b s : List ℕ) where
+  -- of slot i, by the questions
+  abbrev answered : ℕ → SlotAnswers
+  answered i = record {
+    other = other b s i;
+    closed = clash_closed b s i;
+    leaves = leaves b s i;
+    stays = stays b s i;
+    cleared = cleared b s i;
+  }
+
+  surveyed : survey_of b (head_of s) (slot_numbered (holder b s)) (changes_state b s) ≡ series answered 0 slot_count
+  unfolding survey_of answers_at slot_answers other leaves stays
+  surveyed = series-same _ answered 0 slot_count (λ j l. rw (numbered j (holder b s) (omega arith)))
+
+  closed-is : list_all (λ a. a.closed) (series answered 0 slot_count) ≡ question15 b s
+  unfolding question15 series all
+  closed-is = refl
+
+  free-is : free_among (series answered 0 slot_count) ≡ slot_numbered (free_slot b s)
+  unfolding free_slot series seek
+  free-is = first-of (not (stays b s 0)) (not (stays b s 1)) (not (stays b s 2)) (not (stays b s 3)) (not (stays b s 4))
+      (not (stays b s 5)) (not (stays b s 6)) (not (stays b s 7))
+
+  left_is : list_any (λ a. a.leaves) (series answered 0 slot_count) ≡ some_slot (leaves b s)
+  unfolding some_slot
+  left_is = any-passes (λ (a : SlotAnswers). a.leaves) answered 0 slot_count
+
+  others_are : map (λ a. a.other) (series answered 0 slot_count) ≡ series (other b s) 0 slot_count
+  others_are = map-series (λ (a : SlotAnswers). a.other) answered 0 slot_count
+
+  cleared_are : map (λ a. a.cleared) (series answered 0 slot_count) ≡ series (cleared b s) 0 slot_count
+  cleared_are = map-series (λ (a : SlotAnswers). a.cleared) answered 0 slot_count
+
   flag_at : (f : ℕ → Bool) (j : ℕ) → j < 8 → get_or (series f 0 8) j false ≡ f j
   flag_at f j l = series-at f 0 8 j false l ∙ ap f (zero-add j)
-
-  seek-same : (p q : ℕ → Bool) (i n : ℕ) → ((j : ℕ) → j < i + n → p j ≡ q j) → seek p i n ≡ seek q i n
-  unfolding seek
-  seek-same p q i zero h = refl
-  seek-same p q i (suc n) h = rw (h i (omega arith), seek-same p q (i + 1) n (λ j l. h j (omega arith)))
-
-  all_same : (p q : ℕ → Bool) (i n : ℕ) → ((j : ℕ) → j < i + n → p j ≡ q j)
-      → all p (series (λ j. j) i n) ≡ all q (series (λ j. j) i n)
-  unfolding all series
-  all_same p q i zero h = refl
-  all_same p q i (suc n) h = rw (h i (omega arith), all_same p q (i + 1) n (λ j l. h j (omega arith)))
-
-  surveyed : survey_of b (head_of s) (holder b s) (changes_state b s) ≡ record {
-    others = series (other b s) 0 slot_count;
-    closed = question15 b s;
-    leaves = series (leaves b s) 0 slot_count;
-    stays = series (stays b s) 0 slot_count;
-    cleared = series (cleared b s) 0 slot_count;
-  }
-  unfolding survey_of answers_at slot_answers other leaves stays question15
-  surveyed = refl
-
-  lowest-is : free_among (series (stays b s) 0 slot_count) ≡ free_slot b s
-  unfolding free_among free_slot
-  lowest-is = seek-same _ (λ i. not (stays b s i)) 0 8 (λ j l. ap not (flag_at (stays b s) j (omega arith)))
-
-  left_is : some_of (series (leaves b s) 0 slot_count) ≡ some_slot (leaves b s)
-  unfolding some_slot
-  left_is = ap not (all_same _ (λ i. not (leaves b s i)) 0 8 (λ j l. ap not (flag_at (leaves b s) j (omega arith))))
 
   swept-is : swept_records b s (series (other b s) 0 slot_count) true ≡ reported_records b s
   unfolding swept_records reported_records pick
   swept-is = ap (λ (ws : List FullRecord). report_record s ∷ ws) (records-same b _ (other b s) 0 8 (λ j x y. flag_at (other b s) j
       (omega arith)))
 
-  written_is : written_by (head_of s) (holder b s) (free_slot b s) ≡ slot_written b s
-  unfolding written_by slot_written
-  written_is = refl
+  written_is : written_by (head_of s) (slot_numbered (holder b s)) (slot_numbered (free_slot b s)) ≡ slot_numbered (slot_written b s)
+  unfolding written_by slot_written pick
+  written_is =
+      sym (picked (creation_head (head_of s)) (free_slot b s) _
+      ∙ ap (pick (creation_head (head_of s)) (slot_numbered (free_slot b s))) (picked (rewrites (head_of s)) (holder b s) slot_count))
+
+  holder-most : holder b s ≤ slot_count
+  unfolding holder
+  holder-most = seek-most _ 0 slot_count
 
   abbrev limits : ℕ
-  limits = number_after b s (head_of s) (unit_head b) (changes_state b s) (question16 (unit_head b).powers (head_of s) (parts_of s))
-      (survey_of b (head_of s) (holder b s) (changes_state b s))
+  limits =
+      limit_number (head_of s) (question15 b s) (question16 (unit_head b).powers (head_of s) (parts_of s))
+      (question17 (unit_head b).kind (unit_head b).powers (reported_records b s) (head_of s))
+      (question18 (changes_state b s) (unit_head b).row (head_of s)) (question19 (head_of s) (free_slot b s)) 0
 
   abbrev validation : ℕ
   validation = validation_number (unit_head b).kind (head_of s) (parts_of s) 0
@@ -168,29 +260,36 @@ module _ (b s : List ℕ) where
   number_by =
       validation-next (unit_head b).kind (head_of s) (parts_of s) _
       ∙ ap (λ (n : ℕ). pick (eqb validation 0) n validation)
-      (held_next (unit_head b).last_stamp (head_of s) (holder b s) (held_record b s) _ ∙ rw (surveyed, lowest-is, swept-is))
+      (held_next (unit_head b).last_stamp (head_of s) (holder b s) (held_record b s) _)
 
   refuses-with : {n : ℕ} → refusal_number b s ≡ n → (n ≡ 0 → ⊥)
-      → refused_decision n (part_beside n (head_of s) (parts_of s)) ≡ decision_of b s
+      → Err (record { number = n; part = part_beside n (head_of s) (parts_of s) }) ≡ decision_of b s
   unfolding decision_of
   refuses-with {n} e ne = rw (e, passed_over _ _ refl (ne_eqb n 0 ne))
 
-  refuses-unnamed : {n : ℕ} → refusal_number b s ≡ n → (n ≡ 0 → ⊥) → eqb n 8 ≡ false → refused_decision n 0 ≡ decision_of b s
-  refuses-unnamed {n} e ne other =
-      ap (refused_decision n) (sym (passed_over _ 0 refl other)) ∙ refuses-with e ne
+  -- a number beside which no part is named
+  decides-by : {n : ℕ} → refusal_number b s ≡ n → eqb n 8 ≡ false → outcome n (accepted_decision b s) ≡ decision_of b s
+  unfolding decision_of outcome
+  decides-by {n} e none =
+      let no_part : part_beside n (head_of s) (parts_of s) ≡ 0 = passed_over _ 0 refl none in
+      rw (e, no_part)
 
-  limits-unnamed : part_beside limits (head_of s) (parts_of s) ≡ 0
-  limits-unnamed = passed_over _ 0 refl (limits-name-none (head_of s) _ _ _ _ _)
+  abbrev deratings_fit : Bool
+  deratings_fit = question16 (unit_head b).powers (head_of s) (parts_of s)
 
-  decides-with : refusal_number b s ≡ limits
-      → limits_decided b s (head_of s) (unit_head b) (holder b s) (changes_state b s) (question16 (unit_head b).powers (head_of s)
-      (parts_of s)) ≡ decision_of b s
-  unfolding decided_by decision_of
-  decides-with e = rw (e, limits-unnamed, surveyed, lowest-is, left_is, written_is)
+  asked_is : limits_asked b s (head_of s) (unit_head b) (series answered 0 slot_count) (changes_state b s) deratings_fit ≡ outcome limits tt
+  unfolding limits_asked
+  asked_is = rw (closed-is, others_are, swept-is, free-is, there-is (free_slot b s)) (sym (limits-chain (head_of s) _ _ _ _ _))
 
-  changes-is : changes_by (unit_head b).kind (head_of s) (record_at b (holder b s)) ≡ changes_state b s
-  unfolding changes_state
-  changes-is = refl
+  decided_is : surveyed_decision (head_of s) (slot_numbered (holder b s)) (changes_state b s) (series answered 0 slot_count)
+      ≡ accepted_decision b s
+  decided_is = rw (cleared_are, free-is, written_is, left_is)
+
+  limits-are : limits_decided b s (head_of s) (unit_head b) (slot_numbered (holder b s)) (changes_state b s) deratings_fit
+      ≡ outcome limits (accepted_decision b s)
+  limits-are =
+      ap (limits_by b s (head_of s) (unit_head b) (slot_numbered (holder b s)) (changes_state b s) deratings_fit) surveyed
+      ∙ rw (asked_is, decided_is) (sym (then-outcome limits _))
 
   -- what the code hands from one stage to the next
   module _ {h : Head} (head : h ≡ head_of s) {unit : UnitHead} (read : unit ≡ unit_head b) {v : Validated}
@@ -201,37 +300,41 @@ module _ (b s : List ℕ) where
     named : v.part ≡ part_beside v.number (head_of s) (parts_of s)
     named = rw (ap (λ (v : Validated). v.number) asked-first, ap (λ (v : Validated). v.part) asked-first, head)
 
-    pub stops-at-validation : {d : Decision} → (v.number ≡ 0 → ⊥) → d ≡ refused_decision v.number v.part → d ≡ decision_of b s
-    stops-at-validation ne e =
-        e ∙ ap (refused_decision v.number) named
+    pub stops-at-validation : (v.number ≡ 0 → ⊥) → Err (record { number = v.number; part = v.part }) ≡ decision_of b s
+    stops-at-validation ne =
+        ap (λ (k : ℕ). Err (record { number = v.number; part = k })) named
         ∙ refuses-with (number_by ∙ rw (← first, passed_over _ _ refl (ne_eqb v.number 0 ne))) ne
 
-    module _ (passed : v.number ≡ 0) {r x : Record} {slot n : ℕ} (own : r ≡ record_by h) (found : slot ≡ holder_of b r)
-        (there : x ≡ record_at b slot) (asked-next : n ≡ held_number unit.last_stamp h slot x 0) where
-      slot_is : slot ≡ holder b s
+    module _ (passed : v.number ≡ 0) {r x : Record} {slot : Option ℕ} {is_held : Bool} {asked-next : Result ⊤ Refusal}
+        (own : r ≡ record_by h) (found : slot ≡ slot_numbered (holder_of b r)) (there : x ≡ record_at b (unwrap_or slot slot_count))
+        (some : is_held ≡ is_some slot) (next : asked-next ≡ holder_asked unit.last_stamp h is_held x) where
+      slot_is : slot ≡ slot_numbered (holder b s)
       unfolding holder_of holder
       slot_is = found ∙ rw (own, head)
 
-      second : n ≡ held
-      second = asked-next ∙ rw (there, slot_is, read, head)
+      held_is : x ≡ held_record b s
+      held_is = there ∙ rw (slot_is, number-back (holder b s) holder-most)
 
-      pub stops-at-holder : {d : Decision} → (n ≡ 0 → ⊥) → d ≡ refused_decision n 0 → d ≡ decision_of b s
+      second : asked-next ≡ outcome held tt
+      second = next ∙ rw (some, slot_is, there-is (holder b s), held_is, read, head) (sym (holder-by _ _ (holder b s) _))
+
+      pub stops-at-holder : {refusal : Refusal} → asked-next ≡ Err refusal → Err refusal ≡ decision_of b s
       unfolding pick
-      stops-at-holder ne e =
-          e ∙ refuses-unnamed (number_by ∙ rw (← first, eq-eqb v.number 0 passed, ← second, ne_eqb n 0 ne)) ne
-          (rw asked-next (held-names-none unit.last_stamp h slot x))
+      stops-at-holder {refusal} e =
+          let stopped = outcome-stopped held tt (sym second ∙ e) in
+          let number : refusal_number b s ≡ held =
+          number_by ∙ rw (← first, eq-eqb v.number 0 passed, ne_eqb held 0 stopped.0) in
+          ap (λ (x : Refusal). Err x) stopped.1 ∙ outcome-no held _ stopped.0
+          ∙ decides-by number (held-names-none (unit_head b).last_stamp (head_of s) (holder b s) (held_record b s))
 
-      pub decides : {d : Decision} {changes : Bool} → n ≡ 0 → changes ≡ changes_by unit.kind h x
-          → d ≡ limits_decided b s h unit slot changes v.deratings → d ≡ decision_of b s
-      unfolding pick question16
-      decides {d} {changes} z c e =
-          let state : changes ≡ changes_state b s = c ∙ rw (there, slot_is, read, head) changes-is in
+      pub decides : {y : ⊤} {changes : Bool} → asked-next ≡ Ok y → changes ≡ changes_by unit.kind h x
+          → limits_decided b s h unit slot changes v.deratings ≡ decision_of b s
+      unfolding pick question16 changes_state
+      decides {y} {changes} e c =
+          let z : held ≡ 0 = outcome-passed held tt (sym second ∙ e) in
+          let state : changes ≡ changes_state b s = c ∙ rw (held_is, read, head) refl in
           let deratings : v.deratings ≡ question16 (unit_head b).powers (head_of s) (parts_of s) = ap (λ
           (v : Validated). v.deratings) asked-first ∙ rw (read, head) in
-          e ∙ rw (state, deratings, slot_is, read, head) (decides-with (number_by ∙ rw (
-            ← first,
-            eq-eqb
-                v.number 0 passed,
-            ← second,
-            eq-eqb n 0 z,
-          )))
+          let number : refusal_number b s ≡ limits =
+          number_by ∙ rw (← first, eq-eqb v.number 0 passed, eq-eqb held 0 z) in
+          rw (state, deratings, slot_is, read, head) (limits-are ∙ decides-by number (limits-name-none (head_of s) _ _ _ _ _))

@@ -1,15 +1,19 @@
 -- What the code joins is what the definitions join: each law takes what the callees ensure. Assumes nothing.
 use Prim.Native.Nat.{ℕ, zero, suc, ◌+◌, ◌-◌, ◌≤◌, ◌<◌}
-use mathlib.Core.Path.{◌≡◌, refl, ap, sym, ◌∙◌}
+use Rattle.std.specs.Prelude.{Option, Some, None, map}
+use Rattle.std.specs.Array.{IsFromFnResult, IsFromFnResultFrom, IsMapOf}
+use Rattle.std.specs.Fn.{Mut, Called}
+use Rattle.std.proofs.lemmas.List.{same_lists, length-map, get_or-map}
+use borrow.Author.Tests.{lt-ltb, eqb-true, eqb-false}
+use mathlib.Core.Path.{◌≡◌, refl, ap, sym, subst, ◌∙◌}
 use mathlib.Core.Bool.{Bool, true, false, not, ◌&&◌}
 use mathlib.Core.List.{List}
 use native.Mathlib.Omega.{arith}
 use native.Mathlib.Nat.{zero-add}
-use lib.ListN.{length, get_or, set, take, replicate, length-set}
-use lib.Dec.{ltb}
-use Rattle.fields.specs.Lists.{series, seek}
-use Rattle.fields.proofs.Slices.{filled_none, filled_more, filled-all}
-use Rattle.fields.proofs.Tests.{Tested, tested-none, tested-more, tested-all, seek_hit, seek-miss, seek-end}
+use lib.ListN.{length, get_or}
+use lib.Dec.{ltb, eqb}
+use Rattle.fields.specs.Lists.{pick, series, seek}
+use Rattle.fields.proofs.Tests.{series-length, series-at, seek_hit, seek-miss, seek-end}
 use Rattle.report.specs.declared.Head.{Head}
 use Rattle.rules.specs.declared.PowerRange.{PowerRange}
 use Rattle.rules.specs.declared.Record.{Record}
@@ -17,10 +21,11 @@ use Rattle.rules.specs.declared.UnitHead.{UnitHead}
 use Rattle.rules.specs.Codes.{is_levelled}
 use Rattle.rules.specs.Minutes.{FullRecord, records_among, question17, levels_fit, levels_every}
 use Rattle.rules.specs.Records.{same_identifier}
-use Rattle.rules.specs.Block.{slot_count, slot_at, used, record_in}
+use Rattle.rules.specs.Block.{slot_count, slot_numbered, slot_at, used, record_in}
 use Rattle.rules.specs.Questions.{record_at, live, range_of}
+use Rattle.rules.specs.Judge.{skips, must}
 use Rattle.judge.specs.declared.SlotAnswers.{SlotAnswers}
-use Rattle.judge.specs.Survey.{holder_of, slot_answers, answers_at, survey_of, free_among}
+use Rattle.judge.specs.Survey.{holder_of, slot_answers, answers_at}
 
 -- a slot that was read: free, or with a record
 module _ (b : List ℕ) (i : ℕ) {z : List ℕ} {u : Bool} (read : z ≡ slot_at b i) (asked : u ≡ used z) where
@@ -39,12 +44,12 @@ module _ (b : List ℕ) (i : ℕ) {z : List ℕ} {u : Bool} (read : z ≡ slot_a
   unfolding live
   some-held r n e q = rw (q, e, read, is-used n)
 
-  pub free-answers : (h : Head) (slot : ℕ) (changes : Bool) → u ≡ false
+  pub free-answers : (h : Head) (slot : Option ℕ) (changes : Bool) → u ≡ false
       → record { other = false; closed = true; leaves = false; stays = false; cleared = false } ≡ answers_at b h slot changes i
   unfolding answers_at slot_answers live
   free-answers h slot changes n = rw (not-used n)
 
-  pub used-answers : (h : Head) (slot : ℕ) (changes : Bool) {x : Record} {a : SlotAnswers} → u ≡ true → x ≡ record_in z
+  pub used-answers : (h : Head) (slot : Option ℕ) (changes : Bool) {x : Record} {a : SlotAnswers} → u ≡ true → x ≡ record_in z
       → a ≡ slot_answers h slot changes true (ltb h.stamp.0 x.period.end.0) x i → a ≡ answers_at b h slot changes i
   unfolding answers_at live
   used-answers h slot changes n e a = a ∙ rw (e, read, is-used n)
@@ -72,76 +77,59 @@ module _ {test : ℕ → Bool} {i : ℕ} (k : Sought test i) where
 abbrev pub is_holder : List ℕ → Record → ℕ → Bool
 is_holder b r i = live b r.stamp.0 i && same_identifier r (record_at b i)
 
-pub found-holder : (b : List ℕ) (r : Record) {i : ℕ} → i ≡ seek (is_holder b r) 0 slot_count → i ≡ holder_of b r
-unfolding holder_of
-found-holder b r e = e
+pub found-holder : (b : List ℕ) (r : Record) {i : ℕ} → i < slot_count → i ≡ seek (is_holder b r) 0 slot_count
+    → Some i ≡ slot_numbered (holder_of b r)
+unfolding holder_of pick
+found-holder b r {i} h e = rw (← e, lt-ltb i slot_count h)
 
-pub found-free : (stays : List Bool) {i : ℕ} → i ≡ seek (λ i. not (get_or stays i false)) 0 slot_count → i ≡ free_among stays
-unfolding free_among
-found-free stays e = e
+pub no-holder : (b : List ℕ) (r : Record) → slot_count ≡ seek (is_holder b r) 0 slot_count → None ≡ slot_numbered (holder_of b r)
+unfolding holder_of pick
+no-holder b r e = rw (← e)
 
--- flags that a loop fills, slot by slot
-pub record Filled (f : ℕ → Bool) (flags : List Bool) (i : ℕ) : Type 0 where
-  pub size : length flags ≡ slot_count
-  pub so_far : take i flags ≡ series f 0 i
+-- what a call for each number makes, and a call for each element, where calls leave the closure as it is
+module _ {F B : Type 0} {g : Mut F (ℕ × Unit {0}) B} {f : F} (ys : List B) (k : ℕ → B) (n : ℕ)
+    (calls : (i : ℕ) (y : B) (q : F) → i < n → Called g f (i, tt) y q → (q ≡ f) × (y ≡ k i)) where
+  made-at : (i m : ℕ) → i + m ≤ n → IsFromFnResultFrom g f ys i m → (j : ℕ) (d : B) → i ≤ j → j < i + m → get_or ys j d ≡ k j
+  made-at i zero most each j d a b = absurd (omega arith)
+  made-at i (suc m) most each j d a b =
+      let here = calls i each.1 each.0 (omega arith) each.3 in
+      let rest = subst (λ (p : F). IsFromFnResultFrom g p ys (i + 1) m) here.0 each.4 in
+      by-case (each.2.1 d ∙ here.1) (eqb i j) refl (λ l. made-at (i + 1) m (omega arith) rest j d l (omega arith)) where
+        by-case : get_or ys i d ≡ k i → (t : Bool) → eqb i j ≡ t → (i + 1 ≤ j → get_or ys j d ≡ k j) → get_or ys j d ≡ k j
+        by-case now true e more = subst (λ (m : ℕ). get_or ys m d ≡ k m) (eqb-true i j e) now
+        by-case now false e more =
+            let ne = eqb-false i j e in
+            more (omega arith)
 
-module _ {f : ℕ → Bool} {flags : List Bool} {i : ℕ} (h : Filled f flags i) where
-  flag-more : {v : Bool} → i < slot_count → v ≡ f i → Filled f (set flags i v) (i + 1)
-  flag-more {v} l e =
-      let size = h.size in
-      record {
-        size = simp length-set (omega arith);
-        so_far = filled_more f flags 0 i h.so_far (omega arith) (e ∙ ap f (sym (zero-add i)));
-      }
+  pub made-series : IsFromFnResult g f ys n → ys ≡ series k 0 n
+  made-series made =
+      same_lists ys (series k 0 n) (made.long ∙ sym (series-length k 0 n))
+      (λ i d l.
+      let long : length ys ≡ n = made.long in
+      made-at 0 n (omega arith) made.each i d (omega arith) (omega arith)
+      ∙ sym (series-at k 0 n i d (omega arith) ∙ ap k (zero-add i)))
 
-  flag-all : i ≡ slot_count → flags ≡ series f 0 slot_count
-  flag-all e = filled-all flags (series f 0 slot_count) slot_count h.size (rw e at h.so_far)
+pub made-map : {F A B : Type 0} {g : Mut F (A × Unit {0}) B} {f : F} (xs : List A) {ys : List B} (k : A → B) (n : ℕ) (e : A)
+    → length xs ≡ n → IsMapOf g f xs ys n → ((p q : F) (x : A) (y : B) → Called g p (x, tt) y q → y ≡ k x) → ys ≡ map k xs
+made-map {F} {A} {B} {g} {f} xs {ys} k n e long made same =
+    same_lists ys (map k xs) (made.long ∙ sym long ∙ sym (length-map xs k))
+    (λ i d l.
+    let same_size : length ys ≡ n = made.long in
+    let at = made.at i e d (omega arith) in
+    same at.0 at.1 _ _ at.2 ∙ sym (get_or-map k xs i e d (omega arith)))
 
-module _ (b : List ℕ) (h : Head) (slot : ℕ) (changes : Bool) where
-  abbrev answer : ℕ → SlotAnswers
-  answer i = answers_at b h slot changes i
+-- an element, where a list may have none
+pub no_answers : SlotAnswers
+no_answers = record { other = false; closed = false; leaves = false; stays = false; cleared = false }
 
-  -- the slots before slot i are asked
-  pub record Surveyed (others : List Bool) (closed : Bool) (leaves stays cleared : List Bool) (i : ℕ) : Type 0 where
-    pub most : i ≤ slot_count
-    pub counted : Filled (λ i. (answer i).other) others i
-    pub tested : Tested (λ i. (answer i).closed) (λ i. i) slot_count closed i
-    pub left : Filled (λ i. (answer i).leaves) leaves i
-    pub kept : Filled (λ i. (answer i).stays) stays i
-    pub emptied : Filled (λ i. (answer i).cleared) cleared i
-
-  pub surveyed-none : Surveyed (replicate slot_count false) true (replicate slot_count false) (replicate slot_count false) (replicate slot_count false) 0
-  surveyed-none =
-      let none : (f : ℕ → Bool) → Filled f (replicate slot_count false) 0 = λ f. record { size = refl; so_far = filled_none f 0 } in
-      record { most = omega arith; counted = none _; tested = tested-none; left = none _; kept = none _; emptied = none _ }
-
-  pub surveyed-more : {others leaves stays cleared : List Bool} {closed : Bool} {i : ℕ} {a : SlotAnswers}
-      → Surveyed others closed leaves stays cleared i → i < slot_count → a ≡ answer i
-      → Surveyed (set others i a.other) (closed && a.closed) (set leaves i a.leaves) (set stays i a.stays)
-      (set cleared i a.cleared) (i + 1)
-  surveyed-more k l e = record {
-    most = omega arith;
-    counted = flag-more k.counted l (ap (λ (a : SlotAnswers). a.other) e);
-    tested = tested-more k.tested l (ap (λ (a : SlotAnswers). a.closed) e);
-    left = flag-more k.left l (ap (λ (a : SlotAnswers). a.leaves) e);
-    kept = flag-more k.kept l (ap (λ (a : SlotAnswers). a.stays) e);
-    emptied = flag-more k.emptied l (ap (λ (a : SlotAnswers). a.cleared) e);
-  }
-
-  pub surveyed-all : {others leaves stays cleared : List Bool} {closed : Bool} {i : ℕ}
-      → Surveyed others closed leaves stays cleared i → slot_count ≤ i
-      → record { others = others; closed = closed; leaves = leaves; stays = stays; cleared = cleared } ≡ survey_of b h slot changes
-  unfolding survey_of
-  surveyed-all {others} {leaves} {stays} {cleared} {closed} {i} k l =
-      let most = k.most in
-      let e : i ≡ slot_count = omega arith in
-      rw (
-        flag-all k.counted e,
-        tested-all k.tested l,
-        flag-all k.left e,
-        flag-all k.kept e,
-        flag-all k.emptied e,
-      )
+-- who skips 17 need not have it asked
+pub minutes-asked : (h : Head) (q17 : Bool) {passed_over minutes : Bool} → passed_over ≡ skips h 17
+    → minutes ≡ pick (not passed_over) q17 true → must h 17 minutes ≡ must h 17 q17
+unfolding pick
+minutes-asked h q17 {passed_over} {minutes} e f = by-case (skips h 17) refl where
+  by-case : (t : Bool) → skips h 17 ≡ t → must h 17 minutes ≡ must h 17 q17
+  by-case true k = rw k
+  by-case false k = rw (f, e, k)
 
 -- the sweep of question 17
 module _ (h : Head) (unit : UnitHead) (ws : List FullRecord) {t : Bool} (asked : t ≡ is_levelled h.record_type) where

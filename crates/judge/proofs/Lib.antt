@@ -1,3 +1,3 @@
-pub mod Joins
 pub mod Decisions
+pub mod Joins
 pub mod Warnings

@@ -1,25 +1,27 @@
 // Questions 10 to 19 on a unit's block, the number of the first "no", and what an accepted report does to the slots.
 #![tactic(auto)]
 
-ghost use Rattle.std.specs.Prelude.{◌≡◌, true, ◌&&◌, ◌+◌, ◌≤◌};
+ghost use Rattle.std.specs.Prelude.{◌≡◌, true, ◌&&◌, ◌+◌, ◌≤◌, map};
+ghost use Rattle.std.specs.List.{list_any, list_all};
+ghost use Rattle.std.specs.Option.{unwrap_or};
 ghost use Rattle.fields.specs.Lists.{pick, series};
 ghost use Rattle.rules.specs.Records.{same_identifier};
-ghost use Rattle.rules.specs.Block.{slot_count, slot_at, used};
+ghost use Rattle.rules.specs.Block.{slot_count, slot_numbered, slot_at, used};
 ghost use Rattle.rules.specs.Questions.{record_at, live, begins_by, changes_by, has_transition, question13, question14, must_leave};
 ghost use Rattle.rules.specs.Minutes.{question17};
 ghost use Rattle.rules.specs.After.{one_stop_one_levelled, warns_overlap, worth};
-ghost use Rattle.rules.specs.Judge.{held_number, limit_number};
+ghost use Rattle.rules.specs.Judge.{must};
 ghost use Rattle.levels.specs.Counted.{swept_records};
-ghost use Rattle.judge.specs.Survey.{holder_of, slot_answers as answers_of, answers_at, survey_of, free_among, some_of};
-ghost use Rattle.judge.specs.Decided.{written_by, refused_decision, limits_decided, decision_of};
+ghost use Rattle.judge.specs.Survey.{holder_of, slot_answers as answers_of, answers_at, survey_of, free_among};
+ghost use Rattle.judge.specs.Decided.{written_by, holder_asked, limits_asked, limits_decided, decision_of};
 ghost use Rattle.judge.specs.Warned.{overlap_at, minute_warnings, warnings_on};
 
 use block::SLOT_COUNT;
 use levels::Swept;
 use quantities::Minute;
-use records::{CHANGE, CREATE, EVENT, EXECUTED, FORCED_WORK, OFF_GRID, STOP, W1, WITHDRAW, ask};
+use records::{CHANGE, CREATE, EVENT, EXECUTED, FORCED_WORK, OFF_GRID, STOP, W1, WITHDRAW, must};
 use report::Head;
-use rules::{Record, Row, UnitHead};
+use rules::{Record, Refusal, Row, UnitHead};
 
 // What is asked of a slot from question 15 on: does it count beside the report, is its clash with the report closed,
 // does its record leave, does it stay, is the slot cleared.
@@ -32,24 +34,12 @@ pub struct SlotAnswers {
     pub cleared: bool,
 }
 
-// The same of all slots; `closed` is question 15.
-#[derive(Clone, Copy)]
-pub struct Survey {
-    pub others: [bool; 8],
-    pub closed: bool,
-    pub leaves: [bool; 8],
-    pub stays: [bool; 8],
-    pub cleared: [bool; 8],
-}
-
-// The number of the first "no", or 0, and beside 8 the part that breaks cover; then the slots that are cleared, the slot that is
-// written (8: none), whether the state changes, and whether some record leaves.
+// What an accepted report does: the slots that are cleared, the slot that is written, whether the state changes, and whether some
+// record leaves.
 #[derive(Clone, Copy)]
 pub struct Decision {
-    pub number: u8,
-    pub part: u16,
     pub cleared: [bool; 8],
-    pub written: u8,
+    pub written: Option<u8>,
     pub changes: bool,
     pub left: bool,
 }
@@ -72,16 +62,23 @@ fn holds(b: &[u8], r: Record, i: u8) -> bool
     (r.stamp.0 < x.period.end.0) & records::same_identifier(r, x)
 }
 
-// The live slot that has the record's identifier, or 8.
-fn find_holder(b: &[u8], r: Record) -> u8
-    ensures { result ≡ holder_of b.now r }
+// The live slot that has the record's identifier.
+fn find_holder(b: &[u8], r: Record) -> Option<u8>
+    ensures { result ≡ slot_numbered (holder_of b.now r) }
 {
     for i in 0..SLOT_COUNT {
         if holds(b, r, i) {
-            return i;
+            return Some(i);
         }
     }
-    SLOT_COUNT
+    None
+}
+
+// The record in a slot; where there is none, what is read past the last slot, which is all zeros.
+fn held_record(b: &[u8], slot: Option<u8>) -> Record
+    ensures { result ≡ record_at b.now (unwrap_or slot slot_count) }
+{
+    record_at(b, slot.unwrap_or(SLOT_COUNT))
 }
 
 // Question 13.
@@ -110,24 +107,15 @@ fn may_move(h: Head, held: Record) -> bool
 }
 
 // Questions 10 to 14.
-fn held_number(last: Minute, h: Head, slot: u8, held: Record) -> u8
-    ensures { result ≡ held_number last h slot held 0 }
+fn ask_holder(last: Minute, h: Head, is_held: bool, held: Record) -> Result<(), Refusal>
+    ensures { result ≡ holder_asked last h is_held held }
 {
     let creates = h.operation == CREATE;
-    let is_held = slot < SLOT_COUNT;
-    let from_13 = ask(
-        h,
-        13,
-        is_of_holder(h, held),
-        ask(h, 14, may_move(h, held), 0),
-    );
-    let from_11 = ask(
-        h,
-        11,
-        !creates | !is_held,
-        ask(h, 12, creates | is_held, from_13),
-    );
-    ask(h, 10, last.0 <= h.stamp.0, from_11)
+    must(h, 10, last <= h.stamp)?;
+    must(h, 11, !creates | !is_held)?;
+    must(h, 12, creates | is_held)?;
+    must(h, 13, is_of_holder(h, held))?;
+    must(h, 14, may_move(h, held))
 }
 
 fn begins(h: Head, held: Record) -> bool
@@ -152,14 +140,21 @@ fn must_leave(h: Head, changes: bool, x: Record) -> bool
         | (changes & records::holds_state(x))
 }
 
-fn slot_answers(h: Head, slot: u8, changes: bool, is_live: bool, x: Record, i: u8) -> SlotAnswers
+fn slot_answers(
+    h: Head,
+    slot: Option<u8>,
+    changes: bool,
+    is_live: bool,
+    x: Record,
+    i: u8,
+) -> SlotAnswers
     ensures { result ≡ answers_of h slot changes true is_live x i }
 {
     let r = records::record_by(h);
-    let other = is_live & !((h.operation == CHANGE) & (i == slot));
+    let other = is_live & !((h.operation == CHANGE) & (Some(i) == slot));
     let closed = !(other & records::records_clash(r, x)) | records::record_closes(r, x);
     let leaves = other & must_leave(h, changes, x);
-    let stays = is_live & !leaves & !(records::vacates_slot(h) & (i == slot));
+    let stays = is_live & !leaves & !(records::vacates_slot(h) & (Some(i) == slot));
     SlotAnswers {
         other,
         closed,
@@ -169,7 +164,7 @@ fn slot_answers(h: Head, slot: u8, changes: bool, is_live: bool, x: Record, i: u
     }
 }
 
-fn answers_at(b: &[u8], h: Head, slot: u8, changes: bool, i: u8) -> SlotAnswers
+fn answers_at(b: &[u8], h: Head, slot: Option<u8>, changes: bool, i: u8) -> SlotAnswers
     ensures { result ≡ answers_at b.now h slot changes i }
 {
     let z = block::slot_at(b, i);
@@ -186,57 +181,31 @@ fn answers_at(b: &[u8], h: Head, slot: u8, changes: bool, i: u8) -> SlotAnswers
     slot_answers(h, slot, changes, h.stamp.0 < x.period.end.0, x, i)
 }
 
-fn survey_slots(b: &[u8], h: Head, slot: u8, changes: bool) -> Survey
+fn survey_slots(b: &[u8], h: Head, slot: Option<u8>, changes: bool) -> [SlotAnswers; 8]
     ensures { result ≡ survey_of b.now h slot changes }
 {
-    let mut others = [false; 8];
-    let mut closed = true;
-    let mut leaves = [false; 8];
-    let mut stays = [false; 8];
-    let mut cleared = [false; 8];
-    for i in 0..SLOT_COUNT {
-        let a = answers_at(b, h, slot, changes, i);
-        others[i as usize] = a.other;
-        closed = closed & a.closed;
-        leaves[i as usize] = a.leaves;
-        stays[i as usize] = a.stays;
-        cleared[i as usize] = a.cleared;
-    }
-    Survey {
-        others,
-        closed,
-        leaves,
-        stays,
-        cleared,
-    }
+    std::array::from_fn(|i: usize| answers_at(b, h, slot, changes, i as u8))
 }
 
-// The lowest slot that does not keep its record, or 8.
-fn lowest_free(stays: [bool; 8]) -> u8
-    ensures { result ≡ free_among stays }
+// The lowest slot that does not keep its record.
+fn lowest_free(slots: [SlotAnswers; 8]) -> Option<usize>
+    ensures { result ≡ free_among slots }
 {
-    for i in 0..SLOT_COUNT {
-        if !stays[i as usize] {
-            return i;
-        }
-    }
-    SLOT_COUNT
+    slots.iter().position(|a| !a.stays)
 }
 
-fn some_of(flags: [bool; 8]) -> bool
-    ensures { result ≡ some_of flags }
+// The same, as slots are numbered.
+fn free_slot(slots: [SlotAnswers; 8]) -> Option<u8>
+    ensures { result ≡ free_among slots }
 {
-    let mut none = true;
-    for i in 0..SLOT_COUNT {
-        none = none & !flags[i as usize];
-    }
-    !none
+    let i = lowest_free(slots)?;
+    Some(i as u8)
 }
 
 fn has_transition(row: Row, h: Head) -> bool
     ensures { result ≡ has_transition row h }
 {
-    row::stepped(row, h).moved
+    row::transition(row, h).is_some()
 }
 
 // Question 17, where it is asked.
@@ -264,107 +233,116 @@ fn minutes_fit(
     levels::fits(b, report, swept, h.direction, h.period, unit.kind, range)
 }
 
-// Questions 15 to 19, by their answers.
-fn limit_number(
-    h: Head,
-    closed: bool,
-    deratings: bool,
-    minutes: bool,
-    state: bool,
-    free: bool,
-) -> u8
-    ensures { result ≡ limit_number h closed deratings minutes state free 0 }
-{
-    let from_18 = ask(h, 18, state, ask(h, 19, free, 0));
-    ask(
-        h,
-        15,
-        closed,
-        ask(h, 16, deratings, ask(h, 17, minutes, from_18)),
-    )
-}
-
-// The slot that an accepted report writes, or 8.
-fn slot_written(h: Head, slot: u8, free: u8) -> u8
+// The slot that an accepted report writes.
+fn slot_written(h: Head, slot: Option<u8>, free: Option<u8>) -> Option<u8>
     ensures { result ≡ written_by h slot free }
 {
-    records::choose_code(
-        (h.operation == CREATE) & !(h.record_type == EVENT),
-        free,
-        records::choose_code(
-            (h.operation == CHANGE) & !records::ends_early(h),
-            slot,
-            SLOT_COUNT,
-        ),
-    )
-}
-
-fn refuse(number: u8, part: u16) -> Decision
-    ensures { result ≡ refused_decision number part }
-{
-    let cleared = [false; 8];
-    Decision {
-        number,
-        part,
-        cleared,
-        written: SLOT_COUNT,
-        changes: false,
-        left: false,
+    if (h.operation == CREATE) & !(h.record_type == EVENT) {
+        free
+    } else if (h.operation == CHANGE) & !records::ends_early(h) {
+        slot
+    } else {
+        None
     }
 }
 
-// Questions 15 to 19, after the others.
+// Question 15.
+fn all_closed(slots: [SlotAnswers; 8]) -> bool
+    ensures { result ≡ list_all (λ a. a.closed) slots }
+{
+    slots.iter().all(|a| a.closed)
+}
+
+fn some_leave(slots: [SlotAnswers; 8]) -> bool
+    ensures { result ≡ list_any (λ a. a.leaves) slots }
+{
+    slots.iter().any(|a| a.leaves)
+}
+
+fn others_of(slots: [SlotAnswers; 8]) -> [bool; 8]
+    ensures { result ≡ map (λ a. a.other) slots }
+{
+    slots.map(|a| a.other)
+}
+
+fn cleared_of(slots: [SlotAnswers; 8]) -> [bool; 8]
+    ensures { result ≡ map (λ a. a.cleared) slots }
+{
+    slots.map(|a| a.cleared)
+}
+
+// Question 17, which is not asked where it is skipped.
+fn ask_minutes(
+    b: &[u8],
+    report: &[u8],
+    h: Head,
+    unit: UnitHead,
+    others: [bool; 8],
+) -> Result<(), Refusal>
+    ensures { result ≡ must h 17 (question17 unit.kind unit.powers (swept_records b.now report.now others true) h) }
+{
+    let is_asked = !records::skips_question(h, 17);
+    must(h, 17, minutes_fit(b, report, h, unit, others, is_asked))
+}
+
+// Questions 15 to 19.
+fn ask_limits(
+    b: &[u8],
+    report: &[u8],
+    h: Head,
+    unit: UnitHead,
+    slots: [SlotAnswers; 8],
+    changes: bool,
+    deratings: bool,
+) -> Result<(), Refusal>
+    ensures { result ≡ limits_asked b.now report.now h unit slots changes deratings }
+{
+    let creates = (h.operation == CREATE) & !(h.record_type == EVENT);
+    must(h, 15, all_closed(slots))?;
+    must(h, 16, deratings)?;
+    ask_minutes(b, report, h, unit, others_of(slots))?;
+    must(h, 18, !changes | has_transition(unit.row, h))?;
+    must(h, 19, !creates | free_slot(slots).is_some())
+}
+
+// Questions 15 to 19, and what an accepted report does.
 fn decide_limits(
     b: &[u8],
     report: &[u8],
     h: Head,
     unit: UnitHead,
-    slot: u8,
+    slot: Option<u8>,
     changes: bool,
     deratings: bool,
-) -> Decision
+) -> Result<Decision, Refusal>
     ensures { result ≡ limits_decided b.now report.now h unit slot changes deratings }
 {
-    let survey = survey_slots(b, h, slot, changes);
-    let stays = survey.stays;
-    let cleared = survey.cleared;
-    let others = survey.others;
-    let leaves = survey.leaves;
-    let free = lowest_free(stays);
-    let is_asked = survey.closed & deratings & !records::skips_question(h, 17);
-    let minutes = minutes_fit(b, report, h, unit, others, is_asked);
-    let state = !changes | has_transition(unit.row, h);
-    let room = !((h.operation == CREATE) & !(h.record_type == EVENT)) | (free < SLOT_COUNT);
-    let number = limit_number(h, survey.closed, deratings, minutes, state, room);
-    if number != 0 {
-        return refuse(number, 0);
-    }
-    Decision {
-        number: 0,
-        part: 0,
-        cleared,
-        written: slot_written(h, slot, free),
+    let slots = survey_slots(b, h, slot, changes);
+    ask_limits(b, report, h, unit, slots, changes, deratings)?;
+    Ok(Decision {
+        cleared: cleared_of(slots),
+        written: slot_written(h, slot, free_slot(slots)),
         changes,
-        left: some_of(leaves),
-    }
+        left: some_leave(slots),
+    })
 }
 
 // The first "no" of questions 4 to 19, or what an accepted report does to the slots.
-pub fn decide(b: &[u8], report: &[u8]) -> Decision
+pub fn decide(b: &[u8], report: &[u8]) -> Result<Decision, Refusal>
     ensures { result ≡ decision_of b.now report.now }
 {
     let h = report::head_of(report);
     let unit = block::unit_head(b);
     let validated = validation::validate(unit, h, report);
     if validated.number != 0 {
-        return refuse(validated.number, validated.part);
+        return Err(Refusal {
+            number: validated.number,
+            part: validated.part,
+        });
     }
     let slot = find_holder(b, records::record_by(h));
-    let held = record_at(b, slot);
-    let number = held_number(unit.last_stamp, h, slot, held);
-    if number != 0 {
-        return refuse(number, 0);
-    }
+    let held = held_record(b, slot);
+    ask_holder(unit.last_stamp, h, slot.is_some(), held)?;
     let changes = changes_state(unit.kind, h, held);
     decide_limits(b, report, h, unit, slot, changes, validated.deratings)
 }

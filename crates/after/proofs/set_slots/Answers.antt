@@ -25,7 +25,7 @@ loop-i-preserved c =
     let size : length b ≡ block_size = omega arith in
     let few : part_count_of report ≤ most_parts = omega arith in
     let e =
-    slot-turned b report c.args.plan size few _ _ c.loop-i.i c.loop-i.invariant.2 (omega arith)
+    slot-turned b report c.args.plan size few _ _ c.loop-i.i c.eq.ensures c.loop-i.invariant.2 (omega arith)
     c.set_slot.auto.z c.set_slot.ensures in
     (omega arith, ap length e ∙ progress-length b report c.args.plan size few (c.loop-i.i + 1), e)
 

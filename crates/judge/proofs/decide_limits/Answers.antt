@@ -1,14 +1,11 @@
-use Rattle.judge.proofs.Decisions.{limits-refuse, limits-accept}
+use Rattle.std.proofs.Common.{rules}
+use Rattle.judge.specs.Decided.{◌then◌}
 use Rattle.judge.proofs.decide_limits.Goals as goal
 
-pub returns-then-number-ne0 : goal.returns-then-number-ne0
-returns-then-number-ne0 c =
-    limits-refuse _ _ _ c.args.unit _ _ _ c.survey_slots-survey.ensures c.lowest_free-free.ensures
-    c.skips_question.ensures c.minutes_fit-minutes.ensures c.has_transition.ensures
-    c.limit_number-number.ensures c.if-number-ne0.true c.refuse.ensures
+pub returns-in_err-ask_limits : goal.returns-in_err-ask_limits
+unfolding ◌then◌
+returns-in_err-ask_limits c = search rules
 
 pub returns : goal.returns
-returns c =
-    limits-accept _ _ _ c.args.unit _ _ _ c.survey_slots-survey.ensures c.lowest_free-free.ensures
-    c.skips_question.ensures c.minutes_fit-minutes.ensures c.has_transition.ensures
-    c.limit_number-number.ensures c.if-number-ne0.false c.slot_written.ensures c.some_of.ensures
+unfolding ◌then◌
+returns c = search rules

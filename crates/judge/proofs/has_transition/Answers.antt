@@ -1,6 +1,7 @@
-use mathlib.Core.Path.{ap}
-use Rattle.row.specs.declared.RowStep.{RowStep}
+use Rattle.std.proofs.Common.{rules}
+use Rattle.fields.specs.Lists.{pick}
 use Rattle.judge.proofs.has_transition.Goals as goal
 
 pub returns : goal.returns
-returns c = ap (λ (s : RowStep). s.moved) c.stepped.ensures
+unfolding pick
+returns c = search rules

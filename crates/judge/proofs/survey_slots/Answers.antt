@@ -1,12 +1,8 @@
-use Rattle.judge.proofs.Joins.{surveyed-none, surveyed-more, surveyed-all}
+use Rattle.std.proofs.Common.{rules}
+use Rattle.judge.specs.Survey.{answers_at, survey_of}
+use Rattle.judge.proofs.Joins.{made-series}
 use Rattle.judge.proofs.survey_slots.Goals as goal
 
-pub loop-i-init : goal.loop-i-init
-loop-i-init c = surveyed-none _ _ _ _
-
-pub loop-i-preserved : goal.loop-i-preserved
-loop-i-preserved c = surveyed-more _ _ _ _ c.loop-i.invariant c.loop-i-test.true
-    c.answers_at-a.ensures
-
 pub returns : goal.returns
-returns c = surveyed-all _ _ _ _ c.loop-i.invariant c.loop-i-test.false
+unfolding survey_of
+returns c = made-series _ (answers_at c.args.b.now c.args.h c.args.slot c.args.changes) 8 (λ i y q low called. (search rules, search rules)) c.from_fn.ensures.items
