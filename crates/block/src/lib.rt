@@ -5,7 +5,7 @@ ghost use Rattle.std.specs.Prelude.{◌≡◌, Bool, not, ◌||◌, List, ℕ, �
 ghost use Rattle.std.proofs.Common.{lit≤};
 ghost use Rattle.fields.specs.Fields.{u32_at};
 ghost use Rattle.fields.specs.Lists.{all, series, part, put};
-ghost use Rattle.quantities.specs.Quantities.{kilowatt_at};
+ghost use Rattle.quantities.specs.Quantities.{minute_at, kilowatt_at};
 ghost use Rattle.rules.specs.declared.Record.{Record};
 ghost use Rattle.rules.specs.declared.UnitHead.{UnitHead};
 ghost use Rattle.rules.specs.Roster.{most_units, entry_size, powers_at, entry_of, entry_good, piece, pieces_pass, roster_good};
@@ -17,7 +17,7 @@ ghost use Rattle.block.specs.Codec.{head_fields_end, slot_fields_end, RecordFits
 ghost use Rattle.block.specs.declared.Pair.{Pair};
 ghost use Rattle.block.specs.Slot.{stretch_size, pair_at, ends_rise, PowersWithin, pairs_rise, holds_alone, head_whole, FreeFrom};
 
-use fields::{bytes_at, put_bytes, put_u8, put_u16, u8_at, u16_at};
+use fields::{bytes_at, chunk_at, put_bytes, put_u8, put_u16, u8_at, u16_at};
 use quantities::{Kilowatt, Minute, Period, kilowatt_at, minute_at, put_kilowatt, put_minute};
 use records::{
     OFF_GRID, STOP, choose, fields_in_range, has_begun, is_levelled, kind_allows, within,
@@ -174,14 +174,24 @@ fn u32_in(s: &[u8], at: usize) -> u32
     u32::from_le_bytes([s[at], s[at + 1], s[at + 2], s[at + 3]])
 }
 
-// Pair j of a slot, from 0.
+// A pair by its bytes.
+fn pair_in(pair: &[u8]) -> Pair
+    ensures { result ≡ record { end = minute_at pair.now 0; power = kilowatt_at pair.now 4 } }
+{
+    let end = minute_at(pair, 0);
+    let power = kilowatt_at(pair, 4);
+    Pair { end, power }
+}
+
+// Pair j of a slot, from 0: read where it lies, or in a copy with zeros past the slot's end.
 pub fn pair_at(z: &[u8], j: u16) -> Pair
     ensures { result ≡ pair_at z.now j }
 {
-    let pair = bytes_at::<PAIR_SIZE>(z, PAIRS_START + PAIR_SIZE * (j as usize));
-    let end = minute_at(&pair, 0);
-    let power = kilowatt_at(&pair, 4);
-    Pair { end, power }
+    let at = PAIRS_START + PAIR_SIZE * (j as usize);
+    match chunk_at::<PAIR_SIZE>(z, at) {
+        Some(pair) => pair_in(pair),
+        None => pair_in(&bytes_at::<PAIR_SIZE>(z, at)),
+    }
 }
 
 // One test after all bytes, which are read in wide loads.
