@@ -3,7 +3,7 @@ use Prim.Native.Nat.{ℕ, zero, suc, ◌+◌, ◌-◌, ◌≤◌, ◌<◌}
 use mathlib.Core.Path.{◌≡◌, refl, ap, sym, ◌∙◌}
 use mathlib.Core.Bool.{Bool, true, false, not, ◌&&◌, ◌||◌, and_assoc, and_self, and-true}
 use native.Mathlib.Omega.{arith}
-use Rattle.std.proofs.Common.{rules, min, max}
+use Rattle.std.proofs.Common.{rules, min, max, is_lt, is_le, nat_cmp}
 use Rattle.std.specs.Ordering.{ord_min, ord_max}
 use Rattle.fields.specs.Lists.{all, series}
 use Rattle.quantities.specs.declared.Kilowatt.{Kilowatt}
@@ -13,7 +13,19 @@ use Rattle.quantities.specs.contracts.KilowattOrd.TheImpl as powers
 use Rattle.rules.specs.Minutes.{every_minute, some_minute}
 use Rattle.levels.specs.Stays.{Holds}
 
--- `min` and `max` of minutes and of powers
+-- the order of minutes and of powers, `min` and `max`
+pub less : {t : Bool} (a b : ℕ) → t ≡ is_lt (nat_cmp a b) → t ≡ true → a < b
+less a b e t = search (rules, arith)
+
+pub not_less : {t : Bool} (a b : ℕ) → t ≡ is_lt (nat_cmp a b) → t ≡ false → b ≤ a
+not_less a b e t = search (rules, arith)
+
+pub at_most : {t : Bool} (a b : ℕ) → t ≡ is_le (nat_cmp a b) → t ≡ true → a ≤ b
+at_most a b e t = search (rules, arith)
+
+pub not_at_most : {t : Bool} (a b : ℕ) → t ≡ is_le (nat_cmp a b) → t ≡ false → b < a
+not_at_most a b e t = search (rules, arith)
+
 pub sooner : {r : Minute} (a b : Minute) → r ≡ ord_min minutes.cmp-value.it a b → r.0 ≡ min a.0 b.0
 sooner a b e = search rules
 

@@ -160,7 +160,7 @@ impl<'a> Source<'a> {
         for j in place..count {
             let pair = self.pair(j);
             let until = pair.end;
-            if m.0 < until.0 {
+            if m < until {
                 let level = Some(pair.power);
                 let span = LevelSpan { level, until };
                 return LaneSpan { span, place: j };
@@ -181,14 +181,14 @@ impl<'a> Source<'a> {
     {
         let start = lane.period.start;
         let end = lane.period.end;
-        if m.0 < start.0 {
+        if m < start {
             let span = LevelSpan {
                 level: None,
                 until: start,
             };
             return LaneSpan { span, place };
         }
-        if end.0 <= m.0 {
+        if end <= m {
             let span = LevelSpan {
                 level: None,
                 until: LAST,
@@ -212,7 +212,7 @@ impl<'a> Source<'a> {
         ensures { Held (pairs_of self.entry) lane m.0 result.0 }
     {
         let last = self.pair(lane.count - 1).end;
-        if m.0 < last.0 {
+        if m < last {
             return last.min(lane.period.end);
         }
         step.span.until
@@ -278,7 +278,7 @@ fn moved<'a>(at: Option<Place<'a>>, until: Minute, m: Minute) -> Option<Place<'a
     let Some(p) = at else {
         return None;
     };
-    if until.0 <= m.0 {
+    if until <= m {
         return Some(Place {
             pairs: p.pairs,
             count: p.count,
@@ -448,11 +448,7 @@ impl<'a> Lanes<'a> {
             }
             e = self.pairs(i).extremes_in(lane.count, e);
         }
-        if e.lowest.0 <= e.highest.0 {
-            Some(e)
-        } else {
-            None
-        }
+        if e.lowest <= e.highest { Some(e) } else { None }
     }
 
     // The minutes of a period to be asked: outside them every forced level passes the test.
@@ -564,7 +560,7 @@ impl Limits {
     fn is_low(self, level: Kilowatt) -> bool
         ensures { result ≡ is_low self.kind self.range level.0 }
     {
-        ((self.kind == W1) | (self.kind == M1)) & (level.0 < self.range.min.0)
+        ((self.kind == W1) | (self.kind == M1)) & (level < self.range.min)
     }
 
     fn above_max(self, l: Levels) -> bool
@@ -609,7 +605,7 @@ impl Limits {
             let negative = level_at(n);
             let sooner = forced.until.min(positive.until);
             let until = sooner.min(negative.until).min(end);
-            if until.0 <= m.0 {
+            if until <= m {
                 return Stretch { found, until: m };
             }
             let levels = Levels {
@@ -757,10 +753,9 @@ pub fn fits(
     swept: Swept,
     direction: u8,
     period: Period,
-    kind: u8,
-    range: PowerRange,
+    limits: Limits,
 ) -> bool
-    ensures { result ≡ levels_every (levels_fit kind range) (swept_records b.now report.now swept.counted swept.with_report) direction period.start.0 period.end.0 }
+    ensures { result ≡ levels_every (levels_fit limits.kind limits.range) (swept_records b.now report.now swept.counted swept.with_report) direction period.start.0 period.end.0 }
 {
     let counted = swept.counted;
     let types = counted_types(b, counted);
@@ -771,7 +766,6 @@ pub fn fits(
     ) {
         return true;
     }
-    let limits = Limits { kind, range };
     let lanes = lanes_of(b, report, swept, direction);
     let Some(forced) = lanes.extremes_of(FORCED_WORK, period) else {
         return true;
@@ -805,12 +799,10 @@ pub fn warn(
     counted: [bool; 8],
     direction: u8,
     period: Period,
-    kind: u8,
-    range: PowerRange,
+    limits: Limits,
 ) -> LevelWarnings
-    ensures { result ≡ level_warnings kind range (counted_records b.now counted) direction period.start.0 period.end.0 }
+    ensures { result ≡ level_warnings limits.kind limits.range (counted_records b.now counted) direction period.start.0 period.end.0 }
 {
-    let limits = Limits { kind, range };
     if limits.forced_within(b, counted, direction) {
         return LevelWarnings {
             above: false,

@@ -1,7 +1,6 @@
 use mathlib.Core.Path.{subst, sym}
 use Rattle.std.proofs.Common.{Option}
 use Rattle.levels.specs.declared.Extremes.{Extremes}
-use Rattle.levels.specs.declared.Limits.{Limits}
 use Rattle.levels.specs.Extremes.{CoversType}
 use Rattle.levels.proofs.Unforced.{fits-apart}
 use Rattle.levels.proofs.Bounds.{fits-unforced, fits-extremes}
@@ -13,20 +12,17 @@ returns-then-not-types_meet c = fits-apart _ _ _ _ _ _ _ _ _ c.head_of.ensures c
 
 pub returns-in_default : goal.returns-in_default
 returns-in_default c =
-    let u : Limits = record { kind = c.args.kind; range = c.args.range } in
-    fits-unforced _ _ _ _ u c.lanes_of-lanes.ensures
+    fits-unforced _ _ _ _ c.args.limits c.lanes_of-lanes.ensures
     (subst (λ (e : Option Extremes). CoversType c.lanes_of-lanes.result 4 c.args.period e) c.in_default.is c.extremes_of.ensures)
 
 pub returns-then-extremes_fit : goal.returns-then-extremes_fit
 returns-then-extremes_fit c =
-    let u : Limits = record { kind = c.args.kind; range = c.args.range } in
-    fits-extremes _ _ _ _ u c.lanes_of-lanes.ensures
+    fits-extremes _ _ _ _ c.args.limits c.lanes_of-lanes.ensures
     (subst (λ (e : Option Extremes). CoversType c.lanes_of-lanes.result 4 c.args.period e) c.in-Some.is c.extremes_of.ensures)
     c.extremes_of-2.ensures c.extremes_of-3.ensures
     (rw (c.highest_of-positive.ensures, c.highest_of-negative.ensures) at c.extremes_fit.ensures) c.if-extremes_fit.true
 
 pub returns : goal.returns
 returns c =
-    let u : Limits = record { kind = c.args.kind; range = c.args.range } in
-    asked-enough _ _ _ _ u c.lanes_of-lanes.ensures c.extremes_of-2.ensures c.extremes_of-3.ensures
+    asked-enough _ _ _ _ c.args.limits c.lanes_of-lanes.ensures c.extremes_of-2.ensures c.extremes_of-3.ensures
     (λ k e. sym (rw (c.highest_of-positive.ensures, c.highest_of-negative.ensures) at e.1)) c.asked_of-asked.ensures (rw c.common.ensures at c.sweep_lanes.ensures)

@@ -1,3 +1,4 @@
+use Rattle.levels.proofs.Spans.{not_at_most}
 use Rattle.levels.proofs.Bounds.{extremes-skipped, extremes-more, extremes-past, extremes-some, extremes_no}
 use Rattle.levels.proofs.Lanes.extremes_of.Goals as goal
 
@@ -12,8 +13,8 @@ pub loop-i-preserved-then-not-is_asked : goal.loop-i-preserved-then-not-is_asked
 loop-i-preserved-then-not-is_asked c =
     extremes-past _ _ _ c.loop-i.invariant c.loop-i-test.true c.in-Some.is c.overlapping.ensures c.if-not-is_asked.true
 
-pub returns-then-e : goal.returns-then-e
-returns-then-e c = extremes-some _ _ _ c.loop-i.invariant c.loop-i-test.false
+pub returns-then-le : goal.returns-then-le
+returns-then-le c = extremes-some _ _ _ c.loop-i.invariant c.loop-i-test.false
 
-pub returns-else-e : goal.returns-else-e
-returns-else-e c = extremes_no _ _ _ c.loop-i.invariant c.loop-i-test.false c.if-e.false
+pub returns-else-le : goal.returns-else-le
+returns-else-le c = extremes_no _ _ _ c.loop-i.invariant c.loop-i-test.false (not_at_most _ _ c.le.ensures c.if-le.false)
