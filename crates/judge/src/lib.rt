@@ -17,7 +17,7 @@ ghost use Rattle.judge.specs.Decided.{written_by, holder_asked, limits_asked, li
 ghost use Rattle.judge.specs.Warned.{overlap_at, minute_warnings, warnings_on};
 
 use block::SLOT_COUNT;
-use levels::Swept;
+use levels::{Limits, Swept};
 use quantities::Minute;
 use records::{CHANGE, CREATE, EVENT, EXECUTED, FORCED_WORK, OFF_GRID, STOP, W1, WITHDRAW, must};
 use report::Head;
@@ -229,8 +229,11 @@ fn minutes_fit(
         counted: others,
         with_report: true,
     };
-    let range = records::range_of(unit.powers, h.direction);
-    levels::fits(b, report, swept, h.direction, h.period, unit.kind, range)
+    let limits = Limits {
+        kind: unit.kind,
+        range: records::range_of(unit.powers, h.direction),
+    };
+    levels::fits(b, report, swept, h.direction, h.period, limits)
 }
 
 // The slot that an accepted report writes.
@@ -405,8 +408,11 @@ fn minute_warnings(after: &[u8], h: Head) -> u8
     }
     let counted = used_slots(after);
     let unit = block::unit_head(after);
-    let range = records::range_of(unit.powers, h.direction);
-    let g = levels::warn(after, counted, h.direction, h.period, unit.kind, range);
+    let limits = Limits {
+        kind: unit.kind,
+        range: records::range_of(unit.powers, h.direction),
+    };
+    let g = levels::warn(after, counted, h.direction, h.period, limits);
     worth_of(2, g.above) + worth_of(4, g.below)
 }
 

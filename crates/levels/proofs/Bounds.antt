@@ -5,60 +5,54 @@ use mathlib.Core.Bool.{Bool, true, false, not, ◌&&◌, ◌||◌, false≢true}
 use mathlib.Core.List.{List}
 use native.Mathlib.Omega.{arith}
 use lib.Dec.{leb, ltb, eqb}
-use borrow.Author.Tests.{le-leb, leb-true, eqb-true, eqb-false, not-true}
+use borrow.Author.Tests.{le-leb, leb-true, eqb-true, eqb-false}
+use Rattle.std.proofs.Common.{Option, Some, None, is_some, min, max}
+use Rattle.std.proofs.lemmas.Option.{none-some}
 use Rattle.fields.specs.Lists.{pick, series}
 use Rattle.fields.proofs.Bools.{and_left, and_right, and_both, pick-elim}
 use Rattle.fields.proofs.Tests.{all-intro}
 use Rattle.quantities.specs.declared.Kilowatt.{Kilowatt}
 use Rattle.quantities.specs.declared.Period.{Period}
 use Rattle.quantities.specs.Quantities.{overlap}
-use Rattle.rules.specs.declared.Level.{Level}
-use Rattle.rules.specs.declared.Levels.{Levels}
 use Rattle.rules.specs.declared.PowerRange.{PowerRange}
-use Rattle.rules.specs.Block.{slot_at}
 use Rattle.rules.specs.Codes.{W1, M1, Z1}
-use Rattle.rules.specs.Minutes.{no_level, FullRecord, fits_w1_m1, fits_z1, levels_at, levels_fit, levels_every}
+use Rattle.rules.specs.Minutes.{FullRecord, is_none_or, fits_w1_m1, power_of, fits_z1, fits_beside, levels_at, levels_fit, levels_every}
 use Rattle.block.specs.declared.Pair.{Pair}
 use Rattle.levels.specs.declared.Extremes.{Extremes}
 use Rattle.levels.specs.declared.Lane.{Lane}
-use Rattle.levels.specs.declared.SweepResult.{SweepResult}
-use Rattle.levels.specs.Pairs.{pair_of, level_among_pairs}
-use Rattle.levels.specs.Lanes.{lane_count, lane_in, lane_levels}
-use Rattle.levels.specs.Extremes.{Covers, WiderBy, CoversType, extreme_levels, extremes_fit}
-use Rattle.levels.specs.Result.{sweep_result}
-use Rattle.levels.proofs.EachLane.{Seen, seen_none, seen_more, seen-past, seen_all}
-
-pub none-covers : (e : Extremes) → Covers e no_level
-none-covers e = record { there = λ t. absurd (false≢true t); low = λ t. absurd (false≢true t); high = omega arith }
+use Rattle.levels.specs.declared.Lanes.{Lanes}
+use Rattle.levels.specs.declared.Limits.{Limits}
+use Rattle.levels.specs.Pairs.{level_among_pairs}
+use Rattle.levels.specs.Lanes.{lane_count, lane_in, lane_pair, lane_levels}
+use Rattle.levels.specs.Extremes.{Between, Covers, WiderBy, CoversIfSome, CoversType, highest_of, extremes_fit}
+use Rattle.levels.proofs.EachLane.{Seen, seen_none, seen_more, seen-skipped, seen-past, seen_all}
 
 -- the pairs of a lane
 pub wider-none : {f : ℕ → Pair} {e : Extremes} → WiderBy f 0 e e
-wider-none = record { old = record { keeps = λ l c. c }; new = λ j l. absurd (omega arith) }
+wider-none = record { old = λ p b. b; new = λ j l. absurd (omega arith) }
 
-pub wider-more : {f : ℕ → Pair} {j : ℕ} {seen e : Extremes} {p : Pair} {low high : Kilowatt} → WiderBy f j seen e → p ≡ f j
-    → (low.0 ≤ e.lowest.0) × (low.0 ≤ p.power.0) → (e.highest.0 ≤ high.0) × (p.power.0 ≤ high.0)
-    → WiderBy f (j + 1) seen (record { there = true; lowest = low; highest = high })
-wider-more {f} {j} {seen} {e} {p} {low} {high} w read l h =
-    record { old = record { keeps = λ v c. keeps v (w.old.keeps v c) }; new = new }
-  where
-    r : Extremes
-    r = record { there = true; lowest = low; highest = high }
+pub wider-more : {f : ℕ → Pair} {j : ℕ} {seen e : Extremes} {low high power : Kilowatt} → WiderBy f j seen e → power ≡ (f j).power
+    → low.0 ≡ min e.lowest.0 power.0 → high.0 ≡ max e.highest.0 power.0 → WiderBy f (j + 1) seen (record { lowest = low; highest = high })
+wider-more {f} {j} {seen} {e} {low} {high} {power} w read l h = record { old = λ p b. keeps p (w.old p b); new = new } where
+  r : Extremes
+  r = record { lowest = low; highest = high }
 
-    keeps : (v : Level) → Covers e v → Covers r v
-    keeps v c =
-        let high = c.high in
-        record { there = λ t. refl; low = λ t. let low = c.low t in omega arith; high = omega arith }
+  keeps : (p : Kilowatt) → Between e p → Between r p
+  keeps p b =
+      let a = b.low in
+      let o = b.high in
+      record { low = omega arith; high = omega arith }
 
-    new : (i : ℕ) → i < j + 1 → Covers r (record { there = true; power = (f i).power })
-    new i o = by-case (eqb i j) refl where
-      by-case : (t : Bool) → eqb i j ≡ t → Covers r (record { there = true; power = (f i).power })
-      by-case true t =
-          let same : (f i).power.0 ≡ p.power.0 = ap (λ (i : ℕ). (f i).power.0) (eqb-true i j t) ∙ sym
-          (ap (λ (p : Pair). p.power.0) read) in
-          record { there = λ t. refl; low = λ t. omega arith; high = omega arith }
-      by-case false t =
-          let ne = eqb-false i j t in
-          keeps _ (w.new i (omega arith))
+  new : (i : ℕ) → i < j + 1 → Between r (f i).power
+  new i o = by-case (eqb i j) refl where
+    by-case : (t : Bool) → eqb i j ≡ t → Between r (f i).power
+    by-case true t =
+        let same : (f i).power.0 ≡ power.0 = ap (λ (i : ℕ). (f i).power.0) (eqb-true i j t) ∙ sym
+        (ap (λ (p : Kilowatt). p.0) read) in
+        record { low = omega arith; high = omega arith }
+    by-case false t =
+        let ne = eqb-false i j t in
+        keeps _ (w.new i (omega arith))
 
 pub wider-all : {f : ℕ → Pair} {n j : ℕ} {seen e : Extremes} → (j ≤ n) × WiderBy f j seen e → n ≤ j → WiderBy f n seen e
 wider-all {f} {n} {j} {seen} {e} w l =
@@ -66,41 +60,76 @@ wider-all {f} {n} {j} {seen} {e} w l =
     let same : j ≡ n = omega arith in
     subst (λ (j : ℕ). WiderBy f j seen e) same w.1
 
-among-covers : (f : ℕ → Pair) (e : Extremes) (i n k : ℕ) → ((j : ℕ) → i ≤ j → j < i + n
-    → Covers e (record { there = true; power = (f j).power })) → Covers e (level_among_pairs (series f i n) k)
+among-covers : (f : ℕ → Pair) (e : Extremes) (i n k : ℕ) → ((j : ℕ) → i ≤ j → j < i + n → Between e (f j).power)
+    → Covers e (level_among_pairs (series f i n) k)
 unfolding level_among_pairs series
-among-covers f e i zero k h = none-covers e
+among-covers f e i zero k h = tt
 among-covers f e i (suc n) k h =
-    pick-elim (λ (v : Level). Covers e v) (ltb k (f i).end.0)
+    pick-elim (λ (v : Option Kilowatt). Covers e v) (ltb k (f i).end.0)
     (λ t. h i (omega arith) (omega arith))
     (λ t. among-covers f e (i + 1) n k (λ j a b. h j (omega arith) (omega arith)))
 
 -- the lanes of a type
-abbrev pub covering : Extremes → ℕ → Level → Type 0
+abbrev pub covering : Extremes → ℕ → Option Kilowatt → Type 0
 covering e k l = Covers e l
 
-module _ (b s : List ℕ) (lanes : List Lane) (type : ℕ) (period : Period) where
+wider-covers : {f : ℕ → Pair} {n : ℕ} {e r : Extremes} → WiderBy f n e r → (l : Option Kilowatt) → Covers e l → Covers r l
+wider-covers w None c = tt
+wider-covers w (Some p) c = w.old p c
+
+-- nothing lies between a lowest power that is above the highest one
+none-between : (e : Extremes) → e.highest.0 < e.lowest.0 → (l : Option Kilowatt) → Covers e l → l ≡ None
+none-between e o None c = refl
+none-between e o (Some p) c =
+    let a = c.low in
+    let b = c.high in
+    absurd (omega arith)
+
+module _ (ls : Lanes) (type : ℕ) (period : Period) where
   abbrev pub SeenExtremes : ℕ → Extremes → Type 0
-  SeenExtremes = Seen covering (λ e k. none-covers e) b s lanes type period
+  SeenExtremes = Seen covering (λ e k. tt) ls type period
 
   pub extremes-none : {e : Extremes} → SeenExtremes 0 e
-  extremes-none = seen_none covering (λ e k. none-covers e) b s lanes type period
+  extremes-none = seen_none covering (λ e k. tt) ls type period
 
   module _ {i : ℕ} {e : Extremes} (h : SeenExtremes i e) (l : i < lane_count) where
-    pub extremes-more : {z : List ℕ} {r : Extremes} → z ≡ slot_at b (i - 1)
-        → WiderBy (pair_of s z (eqb i 0)) (lane_in lanes i).count e r → SeenExtremes (i + 1) r
-    extremes-more {z} {r} read w =
-        seen_more covering (λ e k. none-covers e) b s lanes type period h l read (record { keeps = λ k v c. w.old.keeps v c })
-        (λ k x. among-covers (pair_of s z (eqb i 0)) r 0 (lane_in lanes i).count k (λ j a o. w.new j (omega arith)))
+    pub extremes-skipped : lane_in ls i ≡ None → SeenExtremes (i + 1) e
+    extremes-skipped q = seen-skipped covering (λ e k. tt) ls type period h l q
 
-    pub extremes-past : {t : Bool} → t ≡ overlap (lane_in lanes i).period period
-        → (eqb (lane_in lanes i).record_type type && t) ≡ false → SeenExtremes (i + 1) e
-    extremes-past q apart = seen-past covering (λ e k. none-covers e) b s lanes type period h l q apart
+    module _ {lane : Lane} (here : lane_in ls i ≡ Some lane) where
+      pub extremes-more : {f : ℕ → Pair} {r : Extremes} → f ≡ lane_pair ls i → WiderBy f lane.count e r → SeenExtremes (i + 1) r
+      extremes-more {f} {r} read w =
+          seen_more covering (λ e k. tt) ls type period h l here read (record { keeps = λ k v c. wider-covers w v c })
+          (λ k x. among-covers f r 0 lane.count k (λ j a o. w.new j (omega arith)))
 
-  pub extremes-all : {i : ℕ} {e : Extremes} → SeenExtremes i e → lane_count ≤ i → CoversType b s lanes type period e
-  extremes-all h l = record { covers = seen_all covering (λ e k. none-covers e) b s lanes type period h l }
+      pub extremes-past : {t : Bool} → t ≡ overlap lane.period period → (eqb lane.record_type type && t) ≡ false
+          → SeenExtremes (i + 1) e
+      extremes-past q apart = seen-past covering (λ e k. tt) ls type period h l here q apart
 
--- what fits at the extremes fits between them
+  module _ {i : ℕ} {e : Extremes} (h : SeenExtremes i e) (l : lane_count ≤ i) where
+    pub extremes-some : CoversType ls type period (Some e)
+    extremes-some = record { covers = seen_all covering (λ e k. tt) ls type period h l }
+
+    pub extremes_no : e.highest.0 < e.lowest.0 → CoversType ls type period None
+    extremes_no o = record { covers = λ k x y. none-between e o _ (seen_all covering (λ e k. tt) ls type period h l k x y) }
+
+-- what fits beside the highest deratings fits beside those of a minute
+is-none-or-some : (p : Option Kilowatt) (e : Option Extremes) (test less : ℕ → Bool) → CoversIfSome e p
+    → ((h k : ℕ) → k ≤ h → test h ≡ true → less k ≡ true) → is_none_or (highest_of e) test ≡ true → is_none_or p less ≡ true
+is-none-or-some None e test less c f t = refl
+is-none-or-some (Some p) None test less c f t = absurd (none-some p (sym c))
+is-none-or-some (Some p) (Some e) test less c f t = f e.highest.0 p.0 c.high t
+
+power-less : (p : Option Kilowatt) (e : Option Extremes) → CoversIfSome e p → power_of p ≤ power_of (highest_of e)
+power-less None e c = omega arith
+power-less (Some p) None c = absurd (none-some p (sym c))
+power-less (Some p) (Some e) c = c.high
+
+some-of : (p : Option Kilowatt) (e : Option Extremes) → CoversIfSome e p → is_some p ≡ true → is_some (highest_of e) ≡ true
+some-of None e c t = absurd (false≢true t)
+some-of (Some p) None c t = absurd (none-some p (sym c))
+some-of (Some p) (Some e) c t = refl
+
 if-there : (a t : Bool) → (a ≡ true → t ≡ true) → (not a || t) ≡ true
 if-there true t h = h refl
 if-there false t h = refl
@@ -118,89 +147,78 @@ either-there false true x y f g e = right x y (g refl) where
   right false y e = e
 either-there false false x y f g e = absurd (false≢true e)
 
-module _ (range : PowerRange) (f p n : Extremes) (l : Levels) (cp : Covers p l.positive) (cn : Covers n l.negative) where
-  abbrev at-extremes : Kilowatt → Levels
-  at-extremes power = extreme_levels f power p n
-
-  z1-between : l.forced.power.0 ≤ f.highest.0 → fits_z1 range (at-extremes f.highest) ≡ true → fits_z1 range l ≡ true
-  z1-between high e =
-      let hp = cp.high in
-      let hn = cn.high in
-      if-there (l.positive.there || l.negative.there) _
+module _ (range : PowerRange) (ep en : Option Extremes) (p n : Option Kilowatt) (cp : CoversIfSome ep p) (cn : CoversIfSome en n) where
+  z1-less : (high level : ℕ) → level ≤ high → fits_z1 range high (highest_of ep) (highest_of en) ≡ true → fits_z1 range level p n ≡ true
+  z1-less high level o e =
+      let hp = power-less p ep cp in
+      let hn = power-less n en cn in
+      if-there (is_some p || is_some n) _
       (λ t.
-      let sum = leb-true (f.highest.0 + range.min.0 + p.highest.0 + n.highest.0) range.max.0
-      (there-so (p.there || n.there) _ e (either-there l.positive.there l.negative.there p.there n.there
-      cp.there cn.there t)) in
-      le-leb (l.forced.power.0 + range.min.0 + l.positive.power.0 + l.negative.power.0) range.max.0 (omega arith))
+      let sum = leb-true (high + range.min.0 + power_of (highest_of ep) + power_of (highest_of en)) range.max.0
+      (there-so (is_some (highest_of ep) || is_some (highest_of en)) _ e
+      (either-there (is_some p) (is_some n) _ _ (some-of p ep cp) (some-of n en cn) t)) in
+      le-leb (level + range.min.0 + power_of p + power_of n) range.max.0 (omega arith))
 
-  abbrev below-max : Kilowatt → Bool
-  below-max power = not p.there || leb (power.0 + p.highest.0) range.max.0
-
-  abbrev above-min : Kilowatt → Bool
-  above-min power = not n.there || leb (range.min.0 + n.highest.0) power.0
-
-  w1-m1-between : l.forced.power.0 ≤ f.highest.0 → f.lowest.0 ≤ l.forced.power.0
-      → fits_w1_m1 range (at-extremes f.highest) ≡ true → fits_w1_m1 range (at-extremes f.lowest) ≡ true
-      → fits_w1_m1 range l ≡ true
-  w1-m1-between high low up down =
-      let hp = cp.high in
-      let hn = cn.high in
+  w1-m1-between : (high low level : ℕ) → level ≤ high → low ≤ level → fits_w1_m1 range high (highest_of ep) (highest_of en) ≡ true
+      → fits_w1_m1 range low (highest_of ep) (highest_of en) ≡ true → fits_w1_m1 range level p n ≡ true
+  w1-m1-between high low level o u up down =
       and_both
-      (if-there l.positive.there _
-      (λ t.
-      let sum = leb-true (f.highest.0 + p.highest.0) range.max.0 (there-so p.there _
-      (and_left (below-max f.highest) (above-min f.highest) up) (cp.there t)) in
-      le-leb (l.forced.power.0 + l.positive.power.0) range.max.0 (omega arith)))
-      (if-there l.negative.there _
-      (λ t.
-      let sum = leb-true (range.min.0 + n.highest.0) f.lowest.0 (there-so n.there _
-      (and_right (below-max f.lowest) (above-min f.lowest) down) (cn.there t)) in
-      le-leb (range.min.0 + l.negative.power.0) l.forced.power.0 (omega arith)))
+      (is-none-or-some p ep (λ p. leb (high + p) range.max.0) (λ p. leb (level + p) range.max.0) cp
+      (λ h k a e. let sum = leb-true (high + h) range.max.0 e in le-leb (level + k) range.max.0 (omega arith))
+      (and_left _ (is_none_or (highest_of en) (λ n. leb (range.min.0 + n) high)) up))
+      (is-none-or-some n en (λ n. leb (range.min.0 + n) low) (λ n. leb (range.min.0 + n) level) cn
+      (λ h k a e. let sum = leb-true (range.min.0 + h) low e in le-leb (range.min.0 + k) level (omega arith))
+      (and_right (is_none_or (highest_of ep) (λ p. leb (low + p) range.max.0)) _ down))
 
-  between : (z other : Bool) → l.forced.power.0 ≤ f.highest.0 → f.lowest.0 ≤ l.forced.power.0
-      → pick z (fits_z1 range (at-extremes f.highest)) (other || fits_w1_m1 range (at-extremes f.highest)) ≡ true
-      → pick z (fits_z1 range (at-extremes f.lowest)) (other || fits_w1_m1 range (at-extremes f.lowest)) ≡ true
-      → pick z (fits_z1 range l) (other || fits_w1_m1 range l) ≡ true
+  between : (z other : Bool) (high low level : ℕ) → level ≤ high → low ≤ level
+      → pick z (fits_z1 range high (highest_of ep) (highest_of en)) (other || fits_w1_m1 range high (highest_of ep) (highest_of en)) ≡ true
+      → pick z (fits_z1 range low (highest_of ep) (highest_of en)) (other || fits_w1_m1 range low (highest_of ep) (highest_of en)) ≡ true
+      → pick z (fits_z1 range level p n) (other || fits_w1_m1 range level p n) ≡ true
   unfolding pick
-  between true other high low up down = z1-between high up
-  between false true high low up down = refl
-  between false false high low up down = w1-m1-between high low up down
+  between true other high low level o u up down = z1-less high level o up
+  between false true high low level o u up down = refl
+  between false false high low level o u up down = w1-m1-between high low level o u up down
 
-  pub extremes-levels : (kind : ℕ) → Covers f l.forced → extremes_fit kind range f p n ≡ true → levels_fit kind range l ≡ true
-  unfolding levels_fit extremes_fit
-  extremes-levels kind cf e =
-      let fit : Kilowatt → Bool = λ power. levels_fit kind range (at-extremes power) in
-      if-there l.forced.there _
-      (λ t. between (eqb kind Z1) (not (eqb kind W1 || eqb kind M1)) cf.high (cf.low t)
-      (there-so f.there _ (and_left (fit f.highest) (fit f.lowest) e) (cf.there t))
-      (there-so f.there _ (and_right (fit f.highest) (fit f.lowest) e) (cf.there t)))
+  module _ (kind : ℕ) where
+    abbrev fit : ℕ → Bool
+    fit level = fits_beside kind range level (highest_of ep) (highest_of en)
 
-module _ (b s : List ℕ) (lanes : List Lane) (ws : List FullRecord) (direction : ℕ) (period : Period) (kind : ℕ) (range : PowerRange)
-    (same : (m : ℕ) → lane_levels b s (lane_in lanes) m ≡ levels_at ws direction m) where
-  pub fits-extremes : {f p n : Extremes} {t : Bool} → CoversType b s lanes 4 period f → CoversType b s lanes 2 period p
-      → CoversType b s lanes 3 period n → t ≡ extremes_fit kind range f p n → t ≡ true
-      → true ≡ levels_every (levels_fit kind range) ws direction period.start.0 period.end.0
-  unfolding levels_every lane_levels
-  fits-extremes {f} {p} {n} cf cp cn q t =
+    fits-between : (high low level : ℕ) → level ≤ high → low ≤ level → fit high ≡ true → fit low ≡ true → fits_beside kind range level p n ≡ true
+    fits-between = between (eqb kind Z1) (not (eqb kind W1 || eqb kind M1))
+
+    -- a forced level that fits beside the highest deratings
+    pub fits-alone : (f : Option Kilowatt) → is_none_or f fit ≡ true → levels_fit kind range (record { forced = f; positive = p; negative = n }) ≡ true
+    unfolding levels_fit
+    fits-alone None t = refl
+    fits-alone (Some f) t = fits-between f.0 f.0 f.0 (omega arith) (omega arith) t t
+
+    extremes-levels : (e : Extremes) (f : Option Kilowatt) → Covers e f → extremes_fit (record { kind = kind; range = range }) e (highest_of ep) (highest_of en) ≡ true
+        → levels_fit kind range (record { forced = f; positive = p; negative = n }) ≡ true
+    unfolding levels_fit
+    extremes-levels e None c t = refl
+    extremes-levels e (Some f) c t =
+        fits-between e.highest.0 e.lowest.0 f.0 c.high c.low (and_left (fit e.highest.0) _ t) (and_right (fit e.highest.0) _ t)
+
+module _ (ls : Lanes) (ws : List FullRecord) (direction : ℕ) (period : Period) (u : Limits)
+    (same : (m : ℕ) → lane_levels ls m ≡ levels_at ws direction m) where
+  abbrev Every : Type 0
+  Every = true ≡ levels_every (levels_fit u.kind u.range) ws direction period.start.0 period.end.0
+
+  each : ((k : ℕ) → period.start.0 ≤ k → k < period.end.0 → levels_fit u.kind u.range (lane_levels ls k) ≡ true) → Every
+  unfolding levels_every
+  each h =
       sym
-      (all-intro (λ m. levels_fit kind range (levels_at ws direction m)) (λ m. m) period.start.0
+      (all-intro (λ m. levels_fit u.kind u.range (levels_at ws direction m)) (λ m. m) period.start.0
       (period.end.0 - period.start.0)
-      (λ k a o. ap (levels_fit kind range) (sym (same k)) ∙ extremes-levels range f p n (lane_levels b s (lane_in lanes) k)
-      (cp.covers k a (omega arith)) (cn.covers k a (omega arith)) kind (cf.covers k a (omega arith)) (sym q ∙ t)))
+      (λ k a o. ap (levels_fit u.kind u.range) (sym (same k)) ∙ h k a (omega arith)))
+
+  pub fits-extremes : {f : Extremes} {p n : Option Extremes} {t : Bool} → CoversType ls 4 period (Some f) → CoversType ls 2 period p
+      → CoversType ls 3 period n → t ≡ extremes_fit u f (highest_of p) (highest_of n) → t ≡ true → Every
+  unfolding lane_levels
+  fits-extremes {f} {p} {n} cf cp cn q t =
+      each (λ k a o. extremes-levels u.range p n _ _ (cp.covers k a o) (cn.covers k a o) u.kind f _ (cf.covers k a o) (sym q ∙ t))
 
   -- no minute has a forced level
-  pub fits-unforced : {f : Extremes} → CoversType b s lanes 4 period f → not f.there ≡ true
-      → true ≡ levels_every (levels_fit kind range) ws direction period.start.0 period.end.0
-  unfolding levels_every lane_levels levels_fit
-  fits-unforced {f} cf none =
-      sym
-      (all-intro (λ m. levels_fit kind range (levels_at ws direction m)) (λ m. m) period.start.0
-      (period.end.0 - period.start.0)
-      (λ k a o. ap (levels_fit kind range) (sym (same k))
-      ∙ if-there (lane_levels b s (lane_in lanes) k).forced.there _
-      (λ t. absurd (false≢true (sym (not-true f.there none) ∙ (cf.covers k a (omega arith)).there t)))))
-
-pub fits-swept : (kind : ℕ) (range : PowerRange) (ws : List FullRecord) (direction start end : ℕ) {g : SweepResult}
-    → g ≡ sweep_result kind range ws direction start end → g.fits ≡ levels_every (levels_fit kind range) ws direction start end
-unfolding sweep_result
-fits-swept kind range ws direction start end e = ap (λ (g : SweepResult). g.fits) e
+  pub fits-unforced : CoversType ls 4 period None → Every
+  unfolding lane_levels levels_fit
+  fits-unforced cf = each (λ k a o. rw (cf.covers k a o))

@@ -1,30 +1,31 @@
 -- What holds of every lane's level of a type in a period holds of the first one. Assumes nothing.
-use Prim.Native.Nat.{ℕ, zero, suc, ◌+◌, ◌-◌, ◌≤◌, ◌<◌}
+use Prim.Native.Nat.{ℕ, zero, suc, ◌+◌, ◌≤◌, ◌<◌}
 use mathlib.Core.Path.{◌≡◌, refl, sym, ◌∙◌, subst}
 use mathlib.Core.Bool.{Bool, true, false, ◌&&◌, false≢true}
-use mathlib.Core.List.{List}
 use native.Mathlib.Omega.{arith}
 use lib.Dec.{leb, ltb, eqb}
 use borrow.Author.Tests.{leb-true, lt-ltb, ltb-true, eqb-true, eqb-false}
 use Rattle.fields.specs.Lists.{series}
 use Rattle.fields.proofs.Bools.{and_left, and_right, and_both, pick-elim}
+use Rattle.std.proofs.Common.{Option, Some, None}
+use Rattle.std.specs.Option.{option_or}
+use Rattle.quantities.specs.declared.Kilowatt.{Kilowatt}
 use Rattle.quantities.specs.declared.Period.{Period}
 use Rattle.quantities.specs.Quantities.{overlap}
-use Rattle.rules.specs.declared.Level.{Level}
-use Rattle.rules.specs.Block.{slot_at}
-use Rattle.rules.specs.Minutes.{no_level}
+use Rattle.block.specs.declared.Pair.{Pair}
 use Rattle.levels.specs.declared.Lane.{Lane}
-use Rattle.levels.specs.Pairs.{pair_of, level_among_pairs}
-use Rattle.levels.specs.Lanes.{lane_count, lane_in, lane_pair, lane_level, level_among_lanes}
+use Rattle.levels.specs.declared.Lanes.{Lanes}
+use Rattle.levels.specs.Pairs.{level_among_pairs}
+use Rattle.levels.specs.Lanes.{lane_count, lane_in, lane_pair, lane_level, level_if_lane, level_among_lanes, type_level}
 
 -- P e k l: what e, kept by a loop over the lanes, says of a level l in minute k
-module _ {S : Type 0} (P : S → ℕ → Level → Type 0) (none : (e : S) (k : ℕ) → P e k no_level) where
+module _ {S : Type 0} (P : S → ℕ → Option Kilowatt → Type 0) (none : (e : S) (k : ℕ) → P e k None) where
   pub record Grows (e r : S) : Type 0 where
-    pub keeps : (k : ℕ) (l : Level) → P e k l → P r k l
+    pub keeps : (k : ℕ) (l : Option Kilowatt) → P e k l → P r k l
 
-  module _ (b s : List ℕ) (lanes : List Lane) (type : ℕ) (period : Period) where
-    abbrev level : ℕ → ℕ → Level
-    level i k = lane_level (lane_in lanes i) (lane_pair b s i) type k
+  module _ (ls : Lanes) (type : ℕ) (period : Period) where
+    abbrev level : ℕ → ℕ → Option Kilowatt
+    level i k = level_if_lane (lane_in ls i) (lane_pair ls i) type k
 
     pub record Seen (i : ℕ) (e : S) : Type 0 where
       pub most : i ≤ lane_count
@@ -44,51 +45,57 @@ module _ {S : Type 0} (P : S → ℕ → Level → Type 0) (none : (e : S) (k : 
               let ne = eqb-false j i t in
               w.keeps k _ (h.before j k (omega arith) x y)
 
-      pub seen_more : {z : List ℕ} {r : S} → z ≡ slot_at b (i - 1) → Grows e r → ((k : ℕ) → (lane_in lanes i).period.start.0 ≤ k
-          → P r k (level_among_pairs (series (pair_of s z (eqb i 0)) 0 (lane_in lanes i).count) k)) → Seen (i + 1) r
-      unfolding lane_level
-      seen_more {z} {r} read w own =
-          seen_next w
-          (λ k x y. pick-elim (λ (v : Level). P r k v) _
-          (λ t. subst (λ (z : List ℕ). P r k (level_among_pairs (series (pair_of s z (eqb i 0)) 0 (lane_in lanes i).count) k)) read
-          (own k (leb-true (lane_in lanes i).period.start.0 k
-          (and_right (eqb (lane_in lanes i).record_type type) _ (and_left _ _ t)))))
-          (λ t. none r k))
-
-      pub seen-past : {t : Bool} → t ≡ overlap (lane_in lanes i).period period → (eqb (lane_in lanes i).record_type type && t) ≡
-          false
-          → Seen (i + 1) e
-      unfolding lane_level
-      seen-past {t} q apart =
+      pub seen-skipped : lane_in ls i ≡ None → Seen (i + 1) e
+      seen-skipped q =
           seen_next (record { keeps = λ k v c. c })
-          (λ k x y. pick-elim (λ (v : Level). P e k v) _
-          (λ holds. absurd (false≢true (sym apart ∙ shared k x y holds)))
-          (λ _. none e k))
-        where
-          lane : Lane
-          lane = lane_in lanes i
+          (λ k x y. subst (λ (l : Option Lane). P e k (level_if_lane l (lane_pair ls i) type k)) (sym q) (none e k))
 
-          shared : (k : ℕ) → period.start.0 ≤ k → k < period.end.0
-              → (eqb lane.record_type type && leb lane.period.start.0 k && ltb k lane.period.end.0) ≡ true
-              → (eqb lane.record_type type && t) ≡ true
-          shared k x y holds =
-              let same = eqb lane.record_type type in
-              let from = leb lane.period.start.0 k in
-              let started = leb-true lane.period.start.0 k (and_right same from (and_left (same && from) _ holds)) in
-              let ends = ltb-true k lane.period.end.0 (and_right (same && from) _ holds) in
-              and_both (and_left same from (and_left (same && from) _ holds))
-              (q ∙ and_both (lt-ltb lane.period.start.0 period.end.0 (omega arith)) (lt-ltb period.start.0
-              lane.period.end.0 (omega arith)))
+      module _ {lane : Lane} (here : lane_in ls i ≡ Some lane) where
+        own-level : {r : S} (k : ℕ) → P r k (lane_level lane (lane_pair ls i) type k) → P r k (level i k)
+        own-level {r} k = subst (λ (l : Option Lane). P r k (level_if_lane l (lane_pair ls i) type k)) (sym here)
+
+        pub seen_more : {f : ℕ → Pair} {r : S} → f ≡ lane_pair ls i → Grows e r
+            → ((k : ℕ) → lane.period.start.0 ≤ k → P r k (level_among_pairs (series f 0 lane.count) k)) → Seen (i + 1) r
+        unfolding lane_level
+        seen_more {f} {r} read w own =
+            seen_next w
+            (λ k x y. own-level k (pick-elim (λ (v : Option Kilowatt). P r k v) _
+            (λ t. subst (λ (f : ℕ → Pair). P r k (level_among_pairs (series f 0 lane.count) k)) read
+            (own k (leb-true lane.period.start.0 k (and_right (eqb lane.record_type type) _ (and_left _ _ t)))))
+            (λ t. none r k)))
+
+        pub seen-past : {t : Bool} → t ≡ overlap lane.period period → (eqb lane.record_type type && t) ≡ false → Seen (i + 1) e
+        unfolding lane_level
+        seen-past {t} q apart =
+            seen_next (record { keeps = λ k v c. c })
+            (λ k x y. own-level k (pick-elim (λ (v : Option Kilowatt). P e k v) _
+            (λ holds. absurd (false≢true (sym apart ∙ shared k x y holds)))
+            (λ _. none e k)))
+          where
+            shared : (k : ℕ) → period.start.0 ≤ k → k < period.end.0
+                → (eqb lane.record_type type && leb lane.period.start.0 k && ltb k lane.period.end.0) ≡ true
+                → (eqb lane.record_type type && t) ≡ true
+            shared k x y holds =
+                let same = eqb lane.record_type type in
+                let from = leb lane.period.start.0 k in
+                let started = leb-true lane.period.start.0 k (and_right same from (and_left (same && from) _ holds)) in
+                let ends = ltb-true k lane.period.end.0 (and_right (same && from) _ holds) in
+                and_both (and_left same from (and_left (same && from) _ holds))
+                (q ∙ and_both (lt-ltb lane.period.start.0 period.end.0 (omega arith)) (lt-ltb period.start.0
+                lane.period.end.0 (omega arith)))
+
+    or-else : (e : S) (k : ℕ) (v w : Option Kilowatt) → P e k v → P e k w → P e k (option_or v w)
+    or-else e k None w p q = q
+    or-else e k (Some x) w p q = p
 
     among-lanes : (e : S) (i n k : ℕ) → ((j : ℕ) → i ≤ j → j < i + n → P e k (level j k))
-        → P e k (level_among_lanes b s (lane_in lanes) type i n k)
+        → P e k (level_among_lanes (lane_in ls) (lane_pair ls) type i n k)
     unfolding level_among_lanes
     among-lanes e i zero k h = none e k
     among-lanes e i (suc n) k h =
-        pick-elim (λ (v : Level). P e k v) (level i k).there
-        (λ t. h i (omega arith) (omega arith))
-        (λ t. among-lanes e (i + 1) n k (λ j a b. h j (omega arith) (omega arith)))
+        or-else e k _ _ (h i (omega arith) (omega arith))
+        (among-lanes e (i + 1) n k (λ j a b. h j (omega arith) (omega arith)))
 
     pub seen_all : {i : ℕ} {e : S} → Seen i e → lane_count ≤ i → (k : ℕ) → period.start.0 ≤ k → k < period.end.0
-        → P e k (level_among_lanes b s (lane_in lanes) type 0 lane_count k)
+        → P e k (type_level ls type k)
     seen_all {i} {e} h l k x y = among-lanes e 0 lane_count k (λ j a o. h.before j k (omega arith) x y)

@@ -1,12 +1,12 @@
 pub mod Spans
 pub mod Parts
-pub mod Counted
-pub mod Choosing
-pub mod Turns
-pub mod Stretches
 pub mod EachLane
 pub mod Bounds
+pub mod Turns
 pub mod Asked
 pub mod Within
 pub mod Warned
 pub mod Unforced
+pub mod Counted
+pub mod Choosing
+pub mod Stretches

@@ -2,7 +2,6 @@
 use Prim.Native.Nat.{ℕ, zero, suc, ◌+◌, ◌-◌, ◌≤◌, ◌<◌}
 use mathlib.Core.Path.{◌≡◌, refl, ap, sym, ◌∙◌}
 use mathlib.Core.Bool.{Bool, true, false, ◌&&◌, and-false, false≢true}
-use mathlib.Core.List.{List}
 use native.Mathlib.Omega.{arith}
 use borrow.Author.Tests.{lt-ltb, le-ltb, le-leb, lt-leb, eq-eqb, leb-true, ltb-true}
 use mathlib.Core.Logic.{⊎_elim}
@@ -11,32 +10,17 @@ use Rattle.fields.proofs.Bools.{and_left, and_right, pick-elim, lt-or-le}
 use lib.Dec.{leb, ltb, eqb}
 use Rattle.fields.specs.Lists.{pick, series}
 use Rattle.fields.proofs.Tests.{series-more}
+use Rattle.std.proofs.Common.{min, Option, Some, None, is_some}
+use Rattle.quantities.specs.declared.Kilowatt.{Kilowatt}
 use Rattle.quantities.specs.declared.Minute.{Minute}
-use Rattle.report.specs.declared.PartLevel.{PartLevel}
-use Rattle.report.specs.Report.{part_level}
-use Rattle.rules.specs.declared.Level.{Level}
-use Rattle.rules.specs.Minutes.{no_level}
 use Rattle.block.specs.declared.Pair.{Pair}
-use Rattle.block.specs.Slot.{pair_at}
 use Rattle.levels.specs.declared.Lane.{Lane}
 use Rattle.levels.specs.declared.LaneSpan.{LaneSpan}
-use Rattle.levels.specs.declared.LevelSpan.{LevelSpan}
-use Rattle.levels.specs.Pairs.{pair_of, level_among_pairs, Passed}
+use Rattle.levels.specs.Pairs.{level_among_pairs, Passed}
 use Rattle.levels.specs.Lanes.{lane_level, Stepped, Held}
-use Rattle.levels.proofs.Spans.{Sooner}
 
--- a pair as the code reads it
-pub pair-in-report : (s z : List ℕ) (t : Bool) (j : ℕ) {p : PartLevel} → t ≡ true → p ≡ part_level s j
-    → record { end = p.end; power = p.power } ≡ pair_of s z t j
-unfolding pair_of pick
-pair-in-report s z t j e q = rw q (sym (ap (λ (t : Bool). pair_of s z t j) e))
-
-pub pair-in-slot : (s z : List ℕ) (t : Bool) (j : ℕ) {p : Pair} → t ≡ false → p ≡ pair_at z j → p ≡ pair_of s z t j
-unfolding pair_of pick
-pair-in-slot s z t j e q = q ∙ sym (ap (λ (t : Bool). pair_of s z t j) e)
-
-none-there : {v : Level} → v ≡ no_level → v.there ≡ true → ⊥
-none-there e t = false≢true (sym (ap (λ (v : Level). v.there) e) ∙ t)
+none-there : {v : Option Kilowatt} → v ≡ None → is_some v ≡ true → ⊥
+none-there e t = false≢true (sym (ap (λ (v : Option Kilowatt). is_some v) e) ∙ t)
 
 pub passed_none : {f : ℕ → Pair} {n m : ℕ} → Passed f n 0 m
 passed_none {f} {n} =
@@ -54,7 +38,7 @@ module _ {f : ℕ → Pair} {n j m : ℕ} (h : Passed f n j m) where
       record { most = omega arith; rest = λ k a. h.rest k a ∙ rw (series-more f j n l, le-ltb k (f j).end.0 (omega arith)) }
 
   pub stepped-hit : {p : Pair} → j < n → p ≡ f j → m < p.end.0 → Stepped f n m (level_among_pairs (series f 0 n)) (record {
-    span = record { level = record { there = true; power = p.power }; until = p.end };
+    span = record { level = Some p.power; until = p.end };
     place = j;
   })
   unfolding level_among_pairs pick
@@ -63,79 +47,61 @@ module _ {f : ℕ → Pair} {n j m : ℕ} (h : Passed f n j m) where
       record {
         stays = record {
           later = o;
-          same = λ k a b. h.rest k a ∙ rw (
-            series-more f j n l,
-            lt-ltb k (f j).end.0
-                (omega arith),
-            q,
-          );
+          same = λ k a b. h.rest k a ∙ rw (series-more f j n l, lt-ltb k (f j).end.0 (omega arith), q);
         };
         passed = h;
         ends = λ t. omega arith;
       }
 
-  pub stepped-all : {span : LevelSpan} {far : Minute} → n ≤ j → span.level ≡ no_level → span.until ≡ far → m < far.0
-      → Stepped f n m (level_among_pairs (series f 0 n)) (record { span = span; place = n })
+  pub stepped-all : {far : Minute} → n ≤ j → m < far.0
+      → Stepped f n m (level_among_pairs (series f 0 n)) (record { span = record { level = None; until = far }; place = n })
   unfolding level_among_pairs series
-  stepped-all {span} {far} l e q o =
+  stepped-all {far} l o =
       let most = h.most in
       let t : n - j ≡ 0 = omega arith in
       let k : j ≡ n = omega arith in
-      let until : span.until.0 ≡ far.0 = ap (λ (x : Minute). x.0) q in
       record {
-        stays = record { later = omega arith; same = λ k a b. h.rest k a ∙ rw t (sym e) };
+        stays = record { later = o; same = λ k a b. h.rest k a ∙ rw t };
         passed = rw k at h;
-        ends = λ t. absurd (none-there e t);
+        ends = λ t. absurd (false≢true t);
       }
 
 -- a lane: before its start, from its end on, and between
-module _ (lane : Lane) (f : ℕ → Pair) {m place : ℕ} (h : Passed f lane.count place m) {span : LevelSpan} where
-  pub before-start : span.level ≡ no_level → span.until ≡ lane.period.start → m < lane.period.start.0
-      → Stepped f lane.count m (lane_level lane f lane.record_type) (record { span = span; place = place })
+module _ (lane : Lane) (f : ℕ → Pair) {m place : ℕ} (h : Passed f lane.count place m) where
+  pub before-start : m < lane.period.start.0 → Stepped f lane.count m (lane_level lane f lane.record_type)
+      (record { span = record { level = None; until = lane.period.start }; place = place })
   unfolding lane_level pick
-  before-start e q l =
-      let until : span.until.0 ≡ lane.period.start.0 = ap (λ (x : Minute). x.0) q in
-      record {
-        stays = record {
-          later = omega arith;
-          same = λ k a b. rw (lt-leb lane.period.start.0 k (omega arith), and-false) (sym e);
-        };
-        passed = h;
-        ends = λ t. absurd (none-there e t);
-      }
+  before-start l = record {
+    stays = record { later = l; same = λ k a b. rw (lt-leb lane.period.start.0 k (omega arith), and-false) };
+    passed = h;
+    ends = λ t. absurd (false≢true t);
+  }
 
-  pub past_end : {far : Minute} → span.level ≡ no_level → span.until ≡ far → lane.period.end.0 ≤ m → m < far.0
-      → Stepped f lane.count m (lane_level lane f lane.record_type) (record { span = span; place = place })
+  pub past_end : {far : Minute} → lane.period.end.0 ≤ m → m < far.0 → Stepped f lane.count m (lane_level lane f lane.record_type)
+      (record { span = record { level = None; until = far }; place = place })
   unfolding lane_level pick
-  past_end {far} e q l o =
-      let until : span.until.0 ≡ far.0 = ap (λ (x : Minute). x.0) q in
-      record {
-        stays = record {
-          later = omega arith;
-          same = λ k a b. rw (le-ltb k lane.period.end.0 (omega arith), and-false) (sym e);
-        };
-        passed = h;
-        ends = λ t. absurd (none-there e t);
-      }
+  past_end {far} l o = record {
+    stays = record { later = o; same = λ k a b. rw (le-ltb k lane.period.end.0 (omega arith), and-false) };
+    passed = h;
+    ends = λ t. absurd (false≢true t);
+  }
 
 pub within : (lane : Lane) (f : ℕ → Pair) {m : ℕ} {r : LaneSpan} {until : Minute} → lane.period.start.0 ≤ m
     → m < lane.period.end.0 → Stepped f lane.count m (level_among_pairs (series f 0 lane.count)) r
-    → Sooner r.span.until.0 lane.period.end.0 until.0
+    → until.0 ≡ min r.span.until.0 lane.period.end.0
     → Stepped f lane.count m (lane_level lane f lane.record_type) (record {
       span = record { level = r.span.level; until = until };
       place = r.place;
     })
 unfolding lane_level pick
 within lane f {m} {r} {until} a b h s =
-    let sooner = s.one in
-    let inside = s.two in
+    let step = h.stays.later in
     record {
       stays = record {
-        later = s.above m h.stays.later b;
+        later = omega arith;
         same = λ k c d. rw (
           eq-eqb lane.record_type lane.record_type refl,
-          le-leb lane.period.start.0 k
-              (omega arith),
+          le-leb lane.period.start.0 k (omega arith),
           lt-ltb k lane.period.end.0 (omega arith),
         ) (h.stays.same k c (omega arith));
       };
@@ -144,50 +110,50 @@ within lane f {m} {r} {until} a b h s =
     }
 
 -- the level of pairs before the last one's end
-pub there-before : (f : ℕ → Pair) (i n k : ℕ) → k < (f (i + n)).end.0 → (level_among_pairs (series f i (suc n)) k).there ≡ true
+pub there-before : (f : ℕ → Pair) (i n k : ℕ) → k < (f (i + n)).end.0 → is_some (level_among_pairs (series f i (suc n)) k) ≡ true
 unfolding level_among_pairs series pick
 there-before f i zero k l =
     let e : i + 0 ≡ i = omega arith in
     rw (lt-ltb k (f i).end.0 (rw e at l))
 there-before f i (suc n) k l =
     let e : i + suc n ≡ i + 1 + n = omega arith in
-    pick-elim (λ (v : Level). v.there ≡ true) (ltb k (f i).end.0)
+    pick-elim (λ (v : Option Kilowatt). is_some v ≡ true) (ltb k (f i).end.0)
     (λ _. refl)
     (λ _. there-before f (i + 1) n k (rw e at l))
 
 -- where there is a level, the place is one of a pair
-pub place-less : {f : ℕ → Pair} {n j m : ℕ} → Passed f n j m → (level_among_pairs (series f 0 n) m).there ≡ true → j < n
+pub place-less : {f : ℕ → Pair} {n j m : ℕ} → Passed f n j m → is_some (level_among_pairs (series f 0 n) m) ≡ true → j < n
 unfolding level_among_pairs series
 place-less {f} {n} {j} {m} h t =
     ⊎_elim
     (λ l. l)
     (λ l.
     let e : n - j ≡ 0 = omega arith in
-    let none : level_among_pairs (series f 0 n) m ≡ no_level = h.rest m (omega arith) ∙ rw e in
+    let none : level_among_pairs (series f 0 n) m ≡ None = h.rest m (omega arith) ∙ rw e in
     absurd (none-there none t))
     (lt-or-le j n)
 
-there-picked : (q : Bool) (v : Level) → (pick q v no_level).there ≡ true → q ≡ true
+there-picked : (q : Bool) (v : Option Kilowatt) → is_some (pick q v None) ≡ true → q ≡ true
 unfolding pick
 there-picked true v t = refl
 there-picked false v t = absurd (false≢true t)
 
 -- a lane that has a level at a minute: how long it has one
-module _ {f : ℕ → Pair} (lane : Lane) {m : ℕ} {step : LaneSpan} (t : step.span.level.there ≡ true) (h : Stepped f
+module _ {f : ℕ → Pair} (lane : Lane) {m : ℕ} {step : LaneSpan} (t : is_some step.span.level ≡ true) (h : Stepped f
     lane.count m (lane_level lane f lane.record_type) step) where
   abbrev holds : ℕ → Bool
   holds k = eqb lane.record_type lane.record_type && leb lane.period.start.0 k && ltb k lane.period.end.0
 
   held-now : (k : ℕ) → m ≤ k → k < step.span.until.0 → holds k ≡ true
   unfolding lane_level
-  held-now k a b = there-picked (holds k) _ (ap (λ (v : Level). v.there) (h.stays.same k a b) ∙ t)
+  held-now k a b = there-picked (holds k) _ (ap (λ (v : Option Kilowatt). is_some v) (h.stays.same k a b) ∙ t)
 
   held_same : (k : ℕ) → holds k ≡ true → lane_level lane f lane.record_type k ≡ level_among_pairs (series f 0 lane.count) k
   unfolding lane_level pick
   held_same k e = rw e
 
-  held-there : (k : ℕ) → m ≤ k → k < step.span.until.0 → (level_among_pairs (series f 0 lane.count) k).there ≡ true
-  held-there k a b = ap (λ (v : Level). v.there) (sym (held_same k (held-now k a b)) ∙ h.stays.same k a b) ∙ t
+  held-there : (k : ℕ) → m ≤ k → k < step.span.until.0 → is_some (level_among_pairs (series f 0 lane.count) k) ≡ true
+  held-there k a b = ap (λ (v : Option Kilowatt). is_some v) (sym (held_same k (held-now k a b)) ∙ h.stays.same k a b) ∙ t
 
   pub held_place : step.place < lane.count
   held_place = place-less h.passed (held-there m (omega arith) h.stays.later)
@@ -196,10 +162,8 @@ module _ {f : ℕ → Pair} (lane : Lane) {m : ℕ} {step : LaneSpan} (t : step.
   held-step = record { later = h.stays.later; there = held-there; same = λ k a b. held_same k (held-now k a b) }
 
   pub held-last : {p : Pair} {until : Minute} → p ≡ f (lane.count - 1) → m < p.end.0
-      → Sooner p.end.0 lane.period.end.0 until.0 → Held f lane m until.0
+      → until.0 ≡ min p.end.0 lane.period.end.0 → Held f lane m until.0
   held-last {p} {until} e l q =
-      let one = q.one in
-      let two = q.two in
       let place = held_place in
       let now = held-now m (omega arith) h.stays.later in
       let same = eqb lane.record_type lane.record_type in
@@ -210,12 +174,11 @@ module _ {f : ℕ → Pair} (lane : Lane) {m : ℕ} {step : LaneSpan} (t : step.
       let last : p.end.0 ≡ (f (0 + (lane.count - 1))).end.0 = ap (λ (p : Pair). p.end.0) e ∙ ap (λ (j : ℕ). (f j).end.0)
       (sym (zero-add (lane.count - 1))) in
       record {
-        later = q.above m l ends;
+        later = omega arith;
         there = λ k a b. rw n (there-before f 0 (lane.count - 1) k (omega arith));
         same = λ k a b. held_same k (rw (
           eq-eqb lane.record_type lane.record_type refl,
-          le-leb lane.period.start.0 k
-              (omega arith),
+          le-leb lane.period.start.0 k (omega arith),
           lt-ltb k lane.period.end.0 (omega arith),
         ));
       }

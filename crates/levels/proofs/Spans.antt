@@ -2,33 +2,46 @@
 use Prim.Native.Nat.{ℕ, zero, suc, ◌+◌, ◌-◌, ◌≤◌, ◌<◌}
 use mathlib.Core.Path.{◌≡◌, refl, ap, sym, ◌∙◌}
 use mathlib.Core.Bool.{Bool, true, false, not, ◌&&◌, ◌||◌, and_assoc, and_self, and-true}
-use mathlib.Core.Logic.{⊎_elim}
 use native.Mathlib.Omega.{arith}
-use borrow.Author.Tests.{lt-ltb, le-ltb}
-use Rattle.fields.specs.Lists.{pick, all, series}
-use Rattle.fields.proofs.Bools.{lt-or-le}
+use Rattle.std.proofs.Common.{rules, min, max, is_lt, is_le, nat_cmp}
+use Rattle.std.specs.Ordering.{ord_min, ord_max}
+use Rattle.fields.specs.Lists.{all, series}
+use Rattle.quantities.specs.declared.Kilowatt.{Kilowatt}
 use Rattle.quantities.specs.declared.Minute.{Minute}
-use Rattle.quantities.specs.Quantities.{earlier_of}
+use Rattle.quantities.specs.contracts.MinuteOrd.TheImpl as minutes
+use Rattle.quantities.specs.contracts.KilowattOrd.TheImpl as powers
 use Rattle.rules.specs.Minutes.{every_minute, some_minute}
 use Rattle.levels.specs.Stays.{Holds}
 
--- r is not after a nor c, and after whatever both are after
-pub record Sooner (a c r : ℕ) : Type 0 where
-  pub one : r ≤ a
-  pub two : r ≤ c
-  pub above : (m : ℕ) → m < a → m < c → m < r
+-- the order of minutes and of powers, `min` and `max`
+pub less : {t : Bool} (a b : ℕ) → t ≡ is_lt (nat_cmp a b) → t ≡ true → a < b
+less a b e t = search (rules, arith)
 
-pub sooner : {a c r : Minute} → r ≡ earlier_of a c → Sooner a.0 c.0 r.0
-unfolding earlier_of pick
-sooner {a} {c} {r} e =
-    ⊎_elim
-    (λ l.
-    let q : r.0 ≡ a.0 = ap (λ (m : Minute). m.0) (e ∙ rw (lt-ltb a.0 c.0 l)) in
-    record { one = omega arith; two = omega arith; above = λ m x y. omega arith })
-    (λ l.
-    let q : r.0 ≡ c.0 = ap (λ (m : Minute). m.0) (e ∙ rw (le-ltb a.0 c.0 l)) in
-    record { one = omega arith; two = omega arith; above = λ m x y. omega arith })
-    (lt-or-le a.0 c.0)
+pub not_less : {t : Bool} (a b : ℕ) → t ≡ is_lt (nat_cmp a b) → t ≡ false → b ≤ a
+not_less a b e t = search (rules, arith)
+
+pub at_most : {t : Bool} (a b : ℕ) → t ≡ is_le (nat_cmp a b) → t ≡ true → a ≤ b
+at_most a b e t = search (rules, arith)
+
+pub not_at_most : {t : Bool} (a b : ℕ) → t ≡ is_le (nat_cmp a b) → t ≡ false → b < a
+not_at_most a b e t = search (rules, arith)
+
+pub sooner : {r : Minute} (a b : Minute) → r ≡ ord_min minutes.cmp-value.it a b → r.0 ≡ min a.0 b.0
+sooner a b e = search rules
+
+pub soonest-of : {r s t : Minute} (a b c d : Minute) → r ≡ ord_min minutes.cmp-value.it a b → s ≡ ord_min minutes.cmp-value.it r c
+    → t ≡ ord_min minutes.cmp-value.it s d → t.0 ≡ min (min (min a.0 b.0) c.0) d.0
+soonest-of a b c d p q e =
+    sooner _ d e ∙ ap (λ (k : ℕ). min k d.0) (sooner _ c q ∙ ap (λ (k : ℕ). min k c.0) (sooner a b p))
+
+pub later : {r : Minute} (a b : Minute) → r ≡ ord_max minutes.cmp-value.it a b → r.0 ≡ max a.0 b.0
+later a b e = search rules
+
+pub lower : {r : Kilowatt} (a b : Kilowatt) → r ≡ ord_min powers.cmp-value.it a b → r.0 ≡ min a.0 b.0
+lower a b e = search rules
+
+pub higher : {r : Kilowatt} (a b : Kilowatt) → r ≡ ord_max powers.cmp-value.it a b → r.0 ≡ max a.0 b.0
+higher a b e = search rules
 
 module _ {A : Type 0} {f : ℕ → A} {m : ℕ} {v : A} {n : ℕ} (h : Holds f m v n) where
   pub holds-less : {p : ℕ} → m < p → p ≤ n → Holds f m v p
@@ -42,11 +55,13 @@ module _ {A : Type 0} {f : ℕ → A} {m : ℕ} {v : A} {n : ℕ} (h : Holds f m
   holds_of g = record { later = h.later; same = λ k a b. ap g (h.same k a b) }
 
 -- two together, up to the sooner of their ends
-pub holds-two : {A B C : Type 0} (g : A → B → C) {f₁ : ℕ → A} {f₂ : ℕ → B} {m n₁ n₂ n : ℕ} {v₁ : A} {v₂ : B} → Holds f₁ m v₁ n₁
-    → Holds f₂ m v₂ n₂ → Sooner n₁ n₂ n → Holds (λ k. g (f₁ k) (f₂ k)) m (g v₁ v₂) n
-holds-two g {f₁} {f₂} {m} {n₁} {n₂} {n} {v₁} {v₂} p q s =
+pub holds-two : {A B C : Type 0} (g : A → B → C) {f₁ : ℕ → A} {f₂ : ℕ → B} {m n₁ n₂ : ℕ} {v₁ : A} {v₂ : B} → Holds f₁ m v₁ n₁
+    → Holds f₂ m v₂ n₂ → Holds (λ k. g (f₁ k) (f₂ k)) m (g v₁ v₂) (min n₁ n₂)
+holds-two g {f₁} {f₂} {m} {n₁} {n₂} {v₁} {v₂} p q =
+    let a = p.later in
+    let b = q.later in
     record {
-      later = s.above m p.later q.later;
+      later = omega arith;
       same = λ k a b. ap (λ x. g x (f₂ k)) (p.same k a (omega arith)) ∙ ap (g v₁) (q.same k a (omega arith));
     }
 

@@ -1,51 +1,44 @@
 -- The sweep: what was found up to a minute, and a turn. Assumes nothing.
 use Prim.Native.Nat.{ℕ, ◌-◌, ◌≤◌, ◌<◌}
 use mathlib.Core.Path.{◌≡◌, ap, sym, ◌∙◌}
-use mathlib.Core.Bool.{Bool, true, false, and-true, or-false}
-use mathlib.Core.List.{List}
+use mathlib.Core.Bool.{Bool, true, false, and-true, and-false, or-false}
 use mathlib.Core.Logic.{◌⊎◌, inl, inr, ⊎_elim}
 use native.Mathlib.Omega.{arith}
-use Rattle.rules.specs.declared.Level.{Level}
+use Rattle.std.proofs.Common.{min, None, is_none}
 use Rattle.rules.specs.declared.Levels.{Levels}
-use Rattle.rules.specs.declared.PowerRange.{PowerRange}
-use Rattle.rules.specs.Minutes.{FullRecord, every_minute, some_minute, levels_at, levels_fit, above_max, below_min, levels_every, levels_some}
+use Rattle.rules.specs.Minutes.{every_minute, some_minute, levels_fit, above_max, below_min}
+use Rattle.levels.specs.declared.Limits.{Limits}
 use Rattle.levels.specs.declared.SweepResult.{SweepResult}
-use Rattle.levels.specs.Result.{with_span, both_found, found_in, sweep_result}
+use Rattle.levels.specs.Result.{with_span, both_found, found_in}
 use Rattle.levels.specs.Stays.{Holds}
-use Rattle.levels.proofs.Spans.{Sooner, holds_of, holds-less, every-none, every-turn, every-join, some-none, some_turn, some-join}
+use Rattle.levels.proofs.Spans.{holds_of, holds-less, every-none, every-turn, every-join, some-none, some_turn, some-join}
 
-pub found-same : (kind : ℕ) (range : PowerRange) (start end : ℕ) {f h : ℕ → Levels} → ((k : ℕ) → f k ≡ h k)
-    → found_in f kind range start end ≡ found_in h kind range start end
-found-same kind range start end same = λ i. found_in (λ k. same k i) kind range start end
+pub found-same : (u : Limits) (start end : ℕ) {f h : ℕ → Levels} → ((k : ℕ) → f k ≡ h k)
+    → found_in f u start end ≡ found_in h u start end
+found-same u start end same = λ i. found_in (λ k. same k i) u start end
 
--- levels that are those of records
-pub found-records : (kind : ℕ) (range : PowerRange) (ws : List FullRecord) (direction start end : ℕ) {f : ℕ → Levels} → ((m : ℕ)
-    → f m ≡ levels_at ws direction m) → found_in f kind range start end ≡ sweep_result kind range ws direction start end
-unfolding found_in sweep_result levels_every levels_some
-found-records kind range ws direction start end h = found-same kind range start end h
-
-module _ (f : ℕ → Levels) (kind : ℕ) (range : PowerRange) (start : ℕ) where
-  pub found_none : record { fits = true; above = false; below = false } ≡ found_in f kind range start start
+module _ (f : ℕ → Levels) (u : Limits) (start : ℕ) where
+  pub found_none : record { fits = true; above = false; below = false } ≡ found_in f u start start
   unfolding found_in
   found_none = rw (every-none, some-none, some-none)
 
   pub found_turn : {m n : ℕ} {l : Levels} → start ≤ m → Holds f m l n
-      → found_in f kind range start n ≡ with_span (found_in f kind range start m) kind range l
+      → found_in f u start n ≡ with_span (found_in f u start m) u l
   unfolding found_in
   found_turn {m} {n} {l} o h =
       λ i. record {
-        fits = every-turn start o (holds_of h (levels_fit kind range)) i;
-        above = some_turn start o (holds_of h (above_max kind range)) i;
-        below = some_turn start o (holds_of h (below_min kind range)) i;
+        fits = every-turn start o (holds_of h (levels_fit u.kind u.range)) i;
+        above = some_turn start o (holds_of h (above_max u.kind u.range)) i;
+        below = some_turn start o (holds_of h (below_min u.kind u.range)) i;
       }
 
   found-join : {h : ℕ → Levels} {m n : ℕ} → start ≤ m → m ≤ n → ((k : ℕ) → m ≤ k → k < n → f k ≡ h k)
-      → found_in f kind range start n ≡ both_found (found_in f kind range start m) (found_in h kind range m n)
+      → found_in f u start n ≡ both_found (found_in f u start m) (found_in h u m n)
   unfolding found_in
   found-join {h} {m} {n} a b same =
-      let fit = levels_fit kind range in
-      let high = above_max kind range in
-      let low = below_min kind range in
+      let fit = levels_fit u.kind u.range in
+      let high = above_max u.kind u.range in
+      let low = below_min u.kind u.range in
       λ i. record {
         fits = every-join start m n (λ k. fit (f k)) (λ k. fit (h k)) a b (λ k x y. ap fit (same k x y)) i;
         above = some-join start m n (λ k. high (f k)) (λ k. high (h k)) a b (λ k x y. ap high (same k x y)) i;
@@ -53,30 +46,30 @@ module _ (f : ℕ → Levels) (kind : ℕ) (range : PowerRange) (start : ℕ) wh
       }
 
   -- minutes without forced work: nothing is found in them
-  module _ {m n : ℕ} {v : Level} (from : start ≤ m) (h : Holds (λ k. (f k).forced) m v n) (none : v.there ≡ false) where
-    quiet : (test : Levels → Bool) (t : Bool) → ((l : Levels) → l.forced.there ≡ false → test l ≡ t)
+  module _ {m n : ℕ} (from : start ≤ m) (h : Holds (λ k. (f k).forced) m None n) where
+    quiet : (test : Levels → Bool) (t : Bool) → ((l : Levels) → l.forced ≡ None → test l ≡ t)
         → Holds (λ k. test (f k)) m t n
-    quiet test t g = record { later = h.later; same = λ k a b. g (f k) (ap (λ (l : Level). l.there) (h.same k a b) ∙ none) }
+    quiet test t g = record { later = h.later; same = λ k a b. g (f k) (h.same k a b) }
 
-    every-quiet : (test : Levels → Bool) → ((l : Levels) → l.forced.there ≡ false → test l ≡ true)
+    every-quiet : (test : Levels → Bool) → ((l : Levels) → l.forced ≡ None → test l ≡ true)
         → every_minute start n (λ k. test (f k)) ≡ every_minute start m (λ k. test (f k))
     every-quiet test g = every-turn start from (quiet test true g) ∙ and-true (every_minute start m (λ k. test (f k)))
 
-    some-quiet : (test : Levels → Bool) → ((l : Levels) → l.forced.there ≡ false → test l ≡ false)
+    some-quiet : (test : Levels → Bool) → ((l : Levels) → l.forced ≡ None → test l ≡ false)
         → some_minute start n (λ k. test (f k)) ≡ some_minute start m (λ k. test (f k))
     some-quiet test g = some_turn start from (quiet test false g) ∙ or-false (some_minute start m (λ k. test (f k)))
 
-    found-quiet : found_in f kind range start n ≡ found_in f kind range start m
+    found-quiet : found_in f u start n ≡ found_in f u start m
     unfolding found_in levels_fit above_max below_min
     found-quiet =
         λ i. record {
-          fits = every-quiet (levels_fit kind range) (λ l e. rw e) i;
-          above = some-quiet (above_max kind range) (λ l e. rw e) i;
-          below = some-quiet (below_min kind range) (λ l e. rw e) i;
+          fits = every-quiet (levels_fit u.kind u.range) (λ l e. rw e) i;
+          above = some-quiet (above_max u.kind u.range) (λ l e. rw e (and-false (is_none l.positive))) i;
+          below = some-quiet (below_min u.kind u.range) (λ l e. rw e (and-false (is_none l.negative))) i;
         }
 
   -- where no minute is left
-  found-empty : {m end : ℕ} → m ≤ start → end ≤ start → found_in f kind range start m ≡ found_in f kind range start end
+  found-empty : {m end : ℕ} → m ≤ start → end ≤ start → found_in f u start m ≡ found_in f u start end
   unfolding found_in
   found-empty {m} {end} a b =
       let x : m - start ≡ 0 = omega arith in
@@ -87,39 +80,39 @@ module _ (f : ℕ → Levels) (kind : ℕ) (range : PowerRange) (start : ℕ) wh
   pub record Judged (end m : ℕ) (g : SweepResult) : Type 0 where
     pub from : start ≤ m
     pub to : (m ≤ end) ⊎ (m ≤ start)
-    pub found : g ≡ found_in f kind range start m
+    pub found : g ≡ found_in f u start m
 
   pub judged-none : {end m : ℕ} {g : SweepResult} → g ≡ record { fits = true; above = false; below = false } → m ≡ start
       → Judged end m g
   judged-none {end} {m} e q =
-      record { from = omega arith; to = inr (omega arith); found = e ∙ found_none ∙ ap (found_in f kind range start) (sym q) }
+      record { from = omega arith; to = inr (omega arith); found = e ∙ found_none ∙ ap (found_in f u start) (sym q) }
 
   pub judged-join : {h : ℕ → Levels} {end m n : ℕ} {g next more : SweepResult} → Judged end m g → m < n → n ≤ end → ((k : ℕ) → m ≤ k
-      → k < n → f k ≡ h k) → more ≡ found_in h kind range m n → next ≡ both_found g more → Judged end n next
+      → k < n → f k ≡ h k) → more ≡ found_in h u m n → next ≡ both_found g more → Judged end n next
   judged-join {h} {end} {m} {n} {g} {next} {more} w l o same e q =
       let before = w.from in
       record {
         from = omega arith;
         to = inl o;
-        found = q ∙ ap (both_found g) e ∙ ap (λ (g : SweepResult). both_found g (found_in h kind range m n)) w.found ∙ sym
+        found = q ∙ ap (both_found g) e ∙ ap (λ (g : SweepResult). both_found g (found_in h u m n)) w.found ∙ sym
             (found-join before (omega arith) same);
       }
 
-  pub judged-quiet : {end m n until : ℕ} {g : SweepResult} {v : Level} → Judged end m g → m < end
-      → Holds (λ k. (f k).forced) m v until → v.there ≡ false → Sooner until end n → Judged end n g
-  judged-quiet {end} {m} {n} {until} {g} {v} w o h e z =
-      let up = z.above m h.later o in
+  pub judged-quiet : {end m n until : ℕ} {g : SweepResult} → Judged end m g → m < end
+      → Holds (λ k. (f k).forced) m None until → n ≡ min until end → Judged end n g
+  judged-quiet {end} {m} {n} {until} {g} w o h e =
       let before = w.from in
+      let later = h.later in
       record {
         from = omega arith;
-        to = inl z.two;
-        found = w.found ∙ sym (found-quiet w.from (holds-less h up z.one) e);
+        to = inl (omega arith);
+        found = w.found ∙ sym (found-quiet w.from (holds-less h (omega arith) (omega arith)));
       }
 
-  pub judged-all : {end m : ℕ} {g : SweepResult} → Judged end m g → end ≤ m → g ≡ found_in f kind range start end
+  pub judged-all : {end m : ℕ} {g : SweepResult} → Judged end m g → end ≤ m → g ≡ found_in f u start end
   judged-all {end} {m} w o =
       w.found
       ∙ ⊎_elim
-      (λ l. let e : m ≡ end = omega arith in ap (found_in f kind range start) e)
+      (λ l. let e : m ≡ end = omega arith in ap (found_in f u start) e)
       (λ l. found-empty l (omega arith))
       w.to

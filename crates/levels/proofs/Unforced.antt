@@ -6,6 +6,8 @@ use mathlib.Core.List.{List, ◌∷◌}
 use lib.Dec.{eqb}
 use lib.ListN.{get_or}
 use borrow.Author.Tests.{not-false}
+use Rattle.std.proofs.Common.{Option, Some, None}
+use Rattle.quantities.specs.declared.Kilowatt.{Kilowatt}
 use Rattle.fields.specs.Lists.{pick, all, series}
 use Rattle.fields.proofs.Bools.{and_left, and_right}
 use Rattle.fields.proofs.Tests.{Tested, tested-more, tested-all, all-intro}
@@ -16,7 +18,7 @@ use Rattle.rules.specs.declared.Record.{Record}
 use Rattle.rules.specs.Codes.{W1, M1, Z1, positive_derating, negative_derating, forced_work}
 use Rattle.rules.specs.Block.{slot_count, slot_at, record_in}
 use Rattle.rules.specs.Questions.{record_of, record_at}
-use Rattle.rules.specs.Minutes.{no_level, FullRecord, level_of, level_among, records_among, levels_at, levels_fit, levels_every}
+use Rattle.rules.specs.Minutes.{FullRecord, level_of, level_among, records_among, levels_at, levels_fit, levels_every}
 use Rattle.levels.specs.declared.CountedTypes.{CountedTypes}
 use Rattle.levels.specs.Counted.{report_record, slot_record, counted_records, swept_records}
 use Rattle.levels.specs.Extremes.{type_at, some_of_type, counted_types, types_meet}
@@ -29,7 +31,7 @@ other-type type w ws direction m e = rw e
 
 module _ (b : List ℕ) (counted : List Bool) (type direction m : ℕ) where
   none-among : (i n : ℕ) → all (λ i. not (type_at b counted type i)) (series (λ i. i) i n) ≡ true
-      → level_among (records_among b (λ i. get_or counted i false) i n) type direction m ≡ no_level
+      → level_among (records_among b (λ i. get_or counted i false) i n) type direction m ≡ None
   unfolding level_among records_among all series pick
   none-among i zero e = refl
   none-among i (suc n) e =
@@ -37,19 +39,25 @@ module _ (b : List ℕ) (counted : List Bool) (type direction m : ℕ) where
       (and_left (not (type_at b counted type i)) _ e) (none-among (i + 1) n (and_right (not (type_at b counted type i)) _ e))
     where
       by-case : (c f : Bool) → get_or counted i false ≡ c → eqb (record_at b i).record_type type ≡ f → not (c && f) ≡ true
-          → level_among (records_among b (λ i. get_or counted i false) (i + 1) n) type direction m ≡ no_level
-          → level_among (records_among b (λ i. get_or counted i false) i (suc n)) type direction m ≡ no_level
+          → level_among (records_among b (λ i. get_or counted i false) (i + 1) n) type direction m ≡ None
+          → level_among (records_among b (λ i. get_or counted i false) i (suc n)) type direction m ≡ None
       by-case false f p q t rest = rw p rest
       by-case true false p q t rest = rw p
           (other-type type (slot_record b i) (records_among b (λ i. get_or counted i false) (i + 1) n) direction m q ∙ rest)
       by-case true true p q t rest = absurd (false≢true t)
 
-passed : (f z x : Bool) → (not f || pick z true (not x || true)) ≡ true
+-- a forced level beside no derating
+either_passes : (z x : Bool) → pick z true (not x || true) ≡ true
 unfolding pick
-passed true true x = refl
-passed true false true = refl
-passed true false false = refl
-passed false z x = refl
+either_passes true x = refl
+either_passes false true = refl
+either_passes false false = refl
+
+alone_fits : (kind : ℕ) (range : PowerRange) (f : Option Kilowatt)
+    → levels_fit kind range (record { forced = f; positive = None; negative = None }) ≡ true
+unfolding levels_fit
+alone_fits kind range None = refl
+alone_fits kind range (Some k) = either_passes (eqb kind Z1) (eqb kind W1 || eqb kind M1)
 
 neither : (a c : Bool) → (a || c) ≡ false → (a ≡ false) × (c ≡ false)
 neither true c e = absurd (false≢true (sym e))
@@ -61,16 +69,16 @@ module _ (b s : List ℕ) (counted : List Bool) (with-report : Bool) where
   swept_of type = some_of_type b counted type || with-report && eqb (record_of s).record_type type
 
   none-swept : (type direction m : ℕ) → swept_of type ≡ false
-      → level_among (swept_records b s counted with-report) type direction m ≡ no_level
+      → level_among (swept_records b s counted with-report) type direction m ≡ None
   unfolding swept_records some_of_type pick
   none-swept type direction m e =
       by-case with-report (eqb (record_of s).record_type type) refl refl (neither (some_of_type b counted type) _ e).1
     where
-      slots : level_among (counted_records b counted) type direction m ≡ no_level
+      slots : level_among (counted_records b counted) type direction m ≡ None
       slots = none-among b counted type direction m 0 slot_count (not-false _ (neither (some_of_type b counted type) _ e).0)
 
       by-case : (w f : Bool) → with-report ≡ w → eqb (record_of s).record_type type ≡ f → (w && f) ≡ false
-          → level_among (swept_records b s counted with-report) type direction m ≡ no_level
+          → level_among (swept_records b s counted with-report) type direction m ≡ None
       by-case false f p q t = rw p slots
       by-case true false p q t = rw p (other-type type (report_record s) (counted_records b counted) direction m q ∙ slots)
       by-case true true p q t = absurd (false≢true (sym t))
@@ -90,10 +98,9 @@ module _ (b s : List ℕ) (counted : List Bool) (with-report : Bool) where
 
     underated : swept_of positive_derating ≡ false → swept_of negative_derating ≡ false → (m : ℕ)
         → levels_fit kind range (levels_at (swept_records b s counted with-report) direction m) ≡ true
-    unfolding levels_at levels_fit pick
+    unfolding levels_at
     underated e f m =
-        rw (none-swept positive_derating direction m e, none-swept negative_derating direction m f) (passed (level_among
-        (swept_records b s counted with-report) forced_work direction m).there (eqb kind Z1) (eqb kind W1 || eqb kind M1))
+        rw (none-swept positive_derating direction m e, none-swept negative_derating direction m f) (alone_fits kind range _)
 
     pub fits-apart : {h : Head} {types : CountedTypes} {t : Bool} → h ≡ head_of s → types ≡ counted_types b counted
         → t ≡ types_meet types with-report h.record_type → t ≡ false

@@ -1,6 +1,6 @@
 -- What a step promises: a value in a minute, and that it stays up to a later one, which is free.
-use Rattle.std.specs.Prelude.{ℕ, ◌<◌, ◌≤◌, ◌≡◌}
-use Rattle.rules.specs.declared.Level.{Level}
+use Rattle.std.specs.Prelude.{ℕ, ◌<◌, ◌≤◌, ◌≡◌, Option}
+use Rattle.quantities.specs.declared.Kilowatt.{Kilowatt}
 use Rattle.levels.specs.declared.LevelSpan.{LevelSpan}
 
 -- v is f's value at m, and at every minute from m up to n; n is later than m
@@ -8,5 +8,5 @@ pub record Holds {A : Type 0} (f : ℕ → A) (m : ℕ) (v : A) (n : ℕ) : Type
   pub later : m < n
   pub same : (k : ℕ) → m ≤ k → k < n → f k ≡ v
 
-abbrev pub Stays : (ℕ → Level) → ℕ → LevelSpan → Type 0
+abbrev pub Stays : (ℕ → Option Kilowatt) → ℕ → LevelSpan → Type 0
 Stays f m r = Holds f m r.level r.until.0

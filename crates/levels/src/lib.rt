@@ -1,36 +1,33 @@
 // Rule 20 in every minute of a period, by one turn for each change of a level.
 #![tactic(auto)]
 
-ghost use Rattle.std.specs.Prelude.{◌≡◌, true, false, ◌-◌, ◌<◌, ◌≤◌};
+ghost use Rattle.std.specs.Prelude.{ℕ, ◌≡◌, true, false, is_some, ◌-◌, ◌<◌, ◌≤◌, min};
+ghost use Rattle.std.specs.Option.{IfSome};
 ghost use Rattle.fields.specs.Lists.{series};
-ghost use Rattle.rules.specs.Block.{slot_at};
-ghost use Rattle.rules.specs.Minutes.{no_level, fits_w1_m1, fits_z1, levels_fit, above_max, below_min, levels_every};
-ghost use Rattle.levels.specs.Pairs.{pair_of, level_among_pairs, Passed};
+ghost use Rattle.rules.specs.Minutes.{fits_w1_m1, fits_z1, fits_beside, levels_fit, is_high, is_low, power_of, above_max, below_min, levels_at, levels_every};
+ghost use Rattle.levels.specs.Pairs.{pairs_of, level_among_pairs, Passed};
 ghost use Rattle.levels.specs.Counted.{counted_records, swept_records};
-ghost use Rattle.levels.specs.Lanes.{lane_count, no_lane, lane_of, report_lane, slot_lane, lane_at, lane_in, lane_level, lane_levels, levels_of, Stepped, Placed, Held, Chosen, chosen_levels, choice_levels, span_at, place_after, AheadAll, beside_of, soonest, Ready};
+ghost use Rattle.levels.specs.Lanes.{lane_count, lane_of, report_lane, slot_lane, lane_at, lane_pair, lane_level, lane_levels, Stepped, Placed, Held, Chosen, chosen_levels, span_at, moved, soonest, Ready};
 ghost use Rattle.levels.specs.Result.{with_span, both_found, found_in, Ran};
-ghost use Rattle.levels.specs.Extremes.{counted_types, types_meet, WiderBy, CoversType, extremes_fit, fits_beside, passes_alone, later_of, with_unfit, AsksBy, AsksType};
+ghost use Rattle.levels.specs.Extremes.{counted_types, types_meet, WiderBy, CoversType, highest_of, extremes_fit, common, with_unfit, AsksBy, AsksType};
 ghost use Rattle.rules.specs.Codes.{forced_work};
 ghost use Rattle.levels.specs.Within.{power_within, pairs_within, slot_within, forced_within, level_warnings};
 
 use block::{Pair, SLOT_COUNT};
 use quantities::{Kilowatt, Minute, Period};
 use records::{FORCED_WORK, M1, NEGATIVE_DERATING, POSITIVE_DERATING, W1, Z1};
-use rules::{Level, Levels, PowerRange, Record};
+use rules::{Levels, PowerRange, Record};
 
 // The lanes of a sweep: the report's and one for each slot.
 pub const LANE_COUNT: u8 = SLOT_COUNT + 1;
 
-// A level, and a later minute up to which it stays.
+// No minute is after it.
+const LAST: Minute = Minute(4294967295);
+
+// A level, if there is one, and a later minute up to which it stays.
 #[derive(Clone, Copy)]
 pub struct LevelSpan {
-    pub level: Level,
-    pub until: Minute,
-}
-
-#[derive(Clone, Copy)]
-pub struct LevelsSpan {
-    pub levels: Levels,
+    pub level: Option<Kilowatt>,
     pub until: Minute,
 }
 
@@ -41,13 +38,27 @@ pub struct Swept {
     pub with_report: bool,
 }
 
-// A record as a sweep reads it: its type (0: it does not count), its period and how many pairs it has. Lane 0 is the
-// report's, lane i + 1 that of slot i.
+// A record that counts, as a sweep reads it: its type, its period and how many pairs it has.
 #[derive(Clone, Copy)]
 pub struct Lane {
     pub record_type: u8,
     pub period: Period,
     pub count: u16,
+}
+
+// The lanes of one direction, those of records that count: lane 0 is the report's, lane i + 1 that of slot i.
+#[derive(Clone, Copy)]
+pub struct Lanes<'a> {
+    pub block: &'a [u8],
+    pub report: &'a [u8],
+    pub each: [Option<Lane>; 9],
+}
+
+// Where a record's pairs lie.
+#[derive(Clone, Copy)]
+pub enum Source<'a> {
+    Report(&'a [u8]),
+    Slot(&'a [u8]),
 }
 
 // A lane's level, and its place: the pairs before it have ended.
@@ -57,37 +68,40 @@ pub struct LaneSpan {
     pub place: u16,
 }
 
-// The lane that has a type's level, with its place, or none; so it is up to a minute.
+// A place among the pairs of a record.
 #[derive(Clone, Copy)]
-pub struct Choice {
-    pub there: bool,
-    pub lane: u8,
+pub struct Place<'a> {
+    pub pairs: Source<'a>,
     pub count: u16,
     pub place: u16,
+}
+
+// The place of the lane that has a type's level, if one has; so it is up to a minute.
+#[derive(Clone, Copy)]
+pub struct Choice<'a> {
+    pub at: Option<Place<'a>>,
     pub until: Minute,
 }
 
 #[derive(Clone, Copy)]
-pub struct Choices {
-    pub forced: Choice,
-    pub positive: Choice,
-    pub negative: Choice,
+pub struct Choices<'a> {
+    pub forced: Choice<'a>,
+    pub positive: Choice<'a>,
+    pub negative: Choice<'a>,
 }
 
-// The lowest and the highest power of a type, where it has one.
+// The lowest and the highest of some powers.
 #[derive(Clone, Copy)]
 pub struct Extremes {
-    pub there: bool,
     pub lowest: Kilowatt,
     pub highest: Kilowatt,
 }
 
-// What a level is asked whatever its minute: to fit beside the highest deratings, or to be within the limits.
+// What levels are held against: a unit's kind and its powers in one direction.
 #[derive(Clone, Copy)]
-pub struct Aside {
-    pub beside: bool,
-    pub positive: Extremes,
-    pub negative: Extremes,
+pub struct Limits {
+    pub kind: u8,
+    pub range: PowerRange,
 }
 
 // The types that question 17 is about, among the slots that count.
@@ -120,150 +134,197 @@ pub struct LevelWarnings {
     pub below: bool,
 }
 
-// No level, up to a minute.
-fn none_until(until: Minute) -> LevelSpan
-    ensures { (result.level ≡ no_level) × (result.until ≡ until) }
-{
-    let level = Level {
-        there: false,
-        power: Kilowatt(0),
-    };
-    LevelSpan { level, until }
-}
-
-// Part j of a report, or pair j of a slot.
-fn pair_of(report: &[u8], slot: &[u8], in_report: bool, j: u16) -> Pair
-    ensures { result ≡ pair_of report.now slot.now in_report j }
-{
-    if in_report {
-        let part = report::part_level(report, j);
-        let end = part.end;
-        let power = part.power;
-        return Pair { end, power };
-    }
-    block::pair_at(slot, j)
-}
-
-// The power of the first pair that ends after the minute; it stays up to that end.
-fn step_among(
-    report: &[u8],
-    slot: &[u8],
-    in_report: bool,
-    count: u16,
-    place: u16,
-    m: Minute,
-) -> LaneSpan
-    requires m_bound { m.0 < 4294967295 }
-    requires passed { Passed (pair_of report.now slot.now in_report) count place m.0 }
-    ensures { Stepped (pair_of report.now slot.now in_report) count m.0 (level_among_pairs (series (pair_of report.now slot.now in_report) 0 count)) result }
-{
-    for j in place..count {
-        let pair = pair_of(report, slot, in_report, j);
-        let until = pair.end;
-        if m.0 < until.0 {
-            let power = pair.power;
-            let level = Level { there: true, power };
-            let span = LevelSpan { level, until };
-            return LaneSpan { span, place: j };
+impl<'a> Source<'a> {
+    // Part j of a report, or pair j of a slot.
+    fn pair(self, j: u16) -> Pair
+        ensures { result ≡ pairs_of self.entry j }
+    {
+        match self {
+            Source::Report(report) => {
+                let part = report::part_level(report, j);
+                Pair {
+                    end: part.end,
+                    power: part.power,
+                }
+            }
+            Source::Slot(z) => block::pair_at(z, j),
         }
     }
-    let span = none_until(Minute(4294967295));
-    LaneSpan { span, place: count }
+
+    // The power of the first pair that ends after the minute; it stays up to that end.
+    fn step_among(self, count: u16, place: u16, m: Minute) -> LaneSpan
+        requires m_bound { m.0 < 4294967295 }
+        requires passed { Passed (pairs_of self) count place m.0 }
+        ensures { Stepped (pairs_of self.entry) count m.0 (level_among_pairs (series (pairs_of self.entry) 0 count)) result }
+    {
+        for j in place..count {
+            let pair = self.pair(j);
+            let until = pair.end;
+            if m < until {
+                let level = Some(pair.power);
+                let span = LevelSpan { level, until };
+                return LaneSpan { span, place: j };
+            }
+        }
+        let span = LevelSpan {
+            level: None,
+            until: LAST,
+        };
+        LaneSpan { span, place: count }
+    }
+
+    // The level of a lane with these pairs.
+    fn level_in(self, lane: Lane, place: u16, m: Minute) -> LaneSpan
+        requires m_bound { m.0 < 4294967295 }
+        requires passed { Passed (pairs_of self) lane.count place m.0 }
+        ensures { Stepped (pairs_of self.entry) lane.count m.0 (lane_level lane (pairs_of self.entry) lane.record_type) result }
+    {
+        let start = lane.period.start;
+        let end = lane.period.end;
+        if m < start {
+            let span = LevelSpan {
+                level: None,
+                until: start,
+            };
+            return LaneSpan { span, place };
+        }
+        if end <= m {
+            let span = LevelSpan {
+                level: None,
+                until: LAST,
+            };
+            return LaneSpan { span, place };
+        }
+        let among = self.step_among(lane.count, place, m);
+        let level = among.span.level;
+        let until = among.span.until.min(end);
+        let span = LevelSpan { level, until };
+        LaneSpan {
+            span,
+            place: among.place,
+        }
+    }
+
+    // Up to it a lane whose level was found has one: the last pair's end or, where that has passed, the level's.
+    fn held_until(self, lane: Lane, step: LaneSpan, m: Minute) -> Minute
+        requires has_level { is_some step.span.level ≡ true }
+        requires stepped { Stepped (pairs_of self) lane.count m.0 (lane_level lane (pairs_of self) lane.record_type) step }
+        ensures { Held (pairs_of self.entry) lane m.0 result.0 }
+    {
+        let last = self.pair(lane.count - 1).end;
+        if m < last {
+            return last.min(lane.period.end);
+        }
+        step.span.until
+    }
+
+    // The extremes of so many pairs and of what was seen before.
+    fn extremes_in(self, count: u16, seen: Extremes) -> Extremes
+        ensures { WiderBy (pairs_of self.entry) count seen result }
+    {
+        let mut e = seen;
+        for j in 0..count {
+            let power = self.pair(j).power;
+            e = Extremes {
+                lowest: e.lowest.min(power),
+                highest: e.highest.max(power),
+            };
+        }
+        e
+    }
+
+    // The minutes to be asked of a lane's pairs: each begins where the one before it ends.
+    fn asked_in<F: Fn(Kilowatt) -> bool + Copy>(self, lane: Lane, passes: F, seen: Period) -> Period
+        requires { F.IsAlwaysCallable passes }
+        ensures { AsksBy (λ p. F.post passes p true) (pairs_of self.entry) lane.count lane.period.start.0 seen result }
+    {
+        let mut asked = seen;
+        let mut from = lane.period.start;
+        for j in 0..lane.count {
+            let pair = self.pair(j);
+            let to = pair.end;
+            let fit = passes(pair.power);
+            asked = with_unfit(asked, from, to, fit);
+            from = to;
+        }
+        asked
+    }
 }
 
-// The level of a lane whose pairs lie in the report or in the slot.
-fn level_in(
-    report: &[u8],
-    slot: &[u8],
-    in_report: bool,
-    lane: Lane,
-    place: u16,
-    m: Minute,
-) -> LaneSpan
-    requires m_bound { m.0 < 4294967295 }
-    requires passed { Passed (pair_of report.now slot.now in_report) lane.count place m.0 }
-    ensures { Stepped (pair_of report.now slot.now in_report) lane.count m.0 (lane_level lane (pair_of report.now slot.now in_report) lane.record_type) result }
+// The level at a place, up to the end of the pair there.
+fn level_at(at: Option<Place>) -> LevelSpan
+    ensures { result ≡ span_at at.entry }
 {
-    let start = lane.period.start;
-    let end = lane.period.end;
-    if m.0 < start.0 {
-        let span = none_until(start);
-        return LaneSpan { span, place };
-    }
-    if end.0 <= m.0 {
-        let span = none_until(Minute(4294967295));
-        return LaneSpan { span, place };
-    }
-    let among = step_among(report, slot, in_report, lane.count, place, m);
-    let level = among.span.level;
-    let until = quantities::earlier(among.span.until, end);
-    let span = LevelSpan { level, until };
-    LaneSpan {
-        span,
-        place: among.place,
+    match at {
+        Some(p) => {
+            let pair = p.pairs.pair(p.place);
+            LevelSpan {
+                level: Some(pair.power),
+                until: pair.end,
+            }
+        }
+        None => LevelSpan {
+            level: None,
+            until: LAST,
+        },
     }
 }
 
-// The slot that has the pairs of lane i, where the report has not.
-fn lane_slot<'a>(b: &'a [u8], i: u8) -> &'a [u8]
-    ensures { result.now ≡ slot_at b.now (i - 1) }
+// The place after a minute: one further where its pair has ended.
+fn moved<'a>(at: Option<Place<'a>>, until: Minute, m: Minute) -> Option<Place<'a>>
+    requires { IfSome at (λ p. p.place < p.count) }
+    ensures { result ≡ moved at.entry until.0 m.0 }
 {
-    if i == 0 {
-        return block::slot_at(b, 0);
+    let Some(p) = at else {
+        return None;
+    };
+    if until <= m {
+        return Some(Place {
+            pairs: p.pairs,
+            count: p.count,
+            place: p.place + 1,
+        });
     }
-    block::slot_at(b, i - 1)
+    at
 }
 
-fn no_lane() -> Lane
-    ensures { result ≡ no_lane }
-{
-    let start = Minute(0);
-    let end = Minute(0);
-    let period = Period { start, end };
-    Lane {
-        record_type: 0,
-        period,
-        count: 0,
-    }
-}
-
-fn lane_of(counts: bool, r: Record, count: u16) -> Lane
+// A record's lane, if it counts and is of the direction asked.
+fn lane_of(counts: bool, r: Record, count: u16) -> Option<Lane>
     ensures { result ≡ lane_of counts r count }
 {
-    if counts {
-        let period = r.period;
-        return Lane {
-            record_type: r.record_type,
-            period,
-            count,
-        };
+    if !counts {
+        return None;
     }
-    no_lane()
+    Some(Lane {
+        record_type: r.record_type,
+        period: r.period,
+        count,
+    })
 }
 
-fn report_lane(report: &[u8], with_report: bool, direction: u8) -> Lane
+fn report_lane(report: &[u8], with_report: bool, direction: u8) -> Option<Lane>
     ensures { result ≡ report_lane report.now with_report direction }
 {
     if !with_report {
-        return no_lane();
+        return None;
     }
     let h = report::head_of(report);
     let r = records::record_by(h);
     lane_of(r.direction == direction, r, h.part_count)
 }
 
-fn slot_lane(b: &[u8], i: u8, counted: bool, direction: u8) -> Lane
+fn slot_lane(b: &[u8], i: u8, counted: bool, direction: u8) -> Option<Lane>
     ensures { result ≡ slot_lane b.now i counted direction }
 {
     if !counted {
-        return no_lane();
+        return None;
     }
     let z = block::slot_at(b, i);
     let r = block::record_in(z);
     lane_of(r.direction == direction, r, block::stored_count(z))
 }
 
-fn lane_at(b: &[u8], report: &[u8], swept: Swept, direction: u8, i: u8) -> Lane
+fn lane_at(b: &[u8], report: &[u8], swept: Swept, direction: u8, i: u8) -> Option<Lane>
     requires { i < lane_count }
     ensures { result ≡ lane_at b.now report.now swept direction i }
 {
@@ -274,189 +335,348 @@ fn lane_at(b: &[u8], report: &[u8], swept: Swept, direction: u8, i: u8) -> Lane
     slot_lane(b, slot, swept.counted[slot as usize], direction)
 }
 
-// The lanes of one direction.
-fn lanes_of(b: &[u8], report: &[u8], swept: Swept, direction: u8) -> [Lane; 9]
-    ensures { result ≡ series (lane_at b.now report.now swept direction) 0 lane_count }
+// The lanes of one direction have the levels of the records that count.
+fn lanes_of<'a>(b: &'a [u8], report: &'a [u8], swept: Swept, direction: u8) -> Lanes<'a>
+    ensures { (m : ℕ) → lane_levels result m ≡ levels_at (swept_records b.now report.now swept.counted swept.with_report) direction m }
 {
-    let none = no_lane();
-    let mut lanes = [none; 9];
+    let mut each = [None; 9];
     for i in 0..LANE_COUNT {
         let lane = lane_at(b, report, swept, direction, i);
-        lanes[i as usize] = lane;
+        each[i as usize] = lane;
     }
-    lanes
-}
-
-// Up to it a lane whose level was found has one: the last pair's end or, where that has passed, the level's.
-fn held_until(
-    report: &[u8],
-    slot: &[u8],
-    in_report: bool,
-    lane: Lane,
-    step: LaneSpan,
-    m: Minute,
-) -> Minute
-    requires has_level { step.span.level.there ≡ true }
-    requires stepped { Stepped (pair_of report.now slot.now in_report) lane.count m.0 (lane_level lane (pair_of report.now slot.now in_report) lane.record_type) step }
-    ensures { Held (pair_of report.now slot.now in_report) lane m.0 result.0 }
-{
-    let last = pair_of(report, slot, in_report, lane.count - 1).end;
-    if m.0 < last.0 {
-        return quantities::earlier(last, lane.period.end);
-    }
-    step.span.until
-}
-
-// No lane, up to a minute.
-fn no_choice(until: Minute) -> Choice
-    ensures { result ≡ record { there = false; lane = 0; count = 0; place = 0; until = until } }
-{
-    Choice {
-        there: false,
-        lane: 0,
-        count: 0,
-        place: 0,
-        until,
+    Lanes {
+        block: b,
+        report,
+        each,
     }
 }
 
-// The first lane of a type that has a level; so it is up to its last change or to the start of a lane before it.
-fn choose_lane(
-    b: &[u8],
-    report: &[u8],
-    lanes: [Lane; 9],
-    places: &mut [u16; 9],
-    record_type: u8,
-    m: Minute,
-) -> Choice
-    requires m_bound { m.0 < 4294967295 }
-    requires placed { Placed b.now report.now lanes places.old m.0 }
-    ensures chosen { Chosen b.now report.now lanes record_type m.0 result }
-    ensures placed_after { Placed b.now report.now lanes places.new m.0 }
-{
-    let mut until = Minute(4294967295);
-    let mut i = 0u8;
-    while i < LANE_COUNT {
-        let at = i;
-        i += 1;
-        let lane = lanes[at as usize];
-        if lane.record_type == record_type {
-            let slot = lane_slot(b, at);
-            let step = level_in(report, slot, at == 0, lane, places[at as usize], m);
-            places[at as usize] = step.place;
-            if step.span.level.there {
-                let held = held_until(report, slot, at == 0, lane, step, m);
-                let until = quantities::earlier(until, held);
-                return Choice {
-                    there: true,
-                    lane: at,
+impl<'a> Lanes<'a> {
+    // The pairs of lane i.
+    fn pairs(&self, i: u8) -> Source<'a>
+        ensures { pairs_of result ≡ lane_pair self.now i }
+    {
+        if i == 0 {
+            return Source::Report(self.report);
+        }
+        Source::Slot(block::slot_at(self.block, i - 1))
+    }
+
+    // The first lane of a type that has a level; so it is up to its last change or to the start of a lane before it.
+    fn choose_lane(&self, places: &mut [u16; 9], record_type: u8, m: Minute) -> Choice<'a>
+        requires m_bound { m.0 < 4294967295 }
+        requires placed { Placed self.now places.old m.0 }
+        ensures chosen { Chosen self.now record_type m.0 result }
+        ensures placed_after { Placed self.now places.new m.0 }
+    {
+        let mut until = LAST;
+        for i in 0..LANE_COUNT {
+            let Some(lane) = self.each[i as usize] else {
+                continue;
+            };
+            if lane.record_type != record_type {
+                continue;
+            }
+            let pairs = self.pairs(i);
+            let step = pairs.level_in(lane, places[i as usize], m);
+            places[i as usize] = step.place;
+            if step.span.level.is_some() {
+                let held = pairs.held_until(lane, step, m);
+                let at = Place {
+                    pairs,
                     count: lane.count,
                     place: step.place,
-                    until,
+                };
+                return Choice {
+                    at: Some(at),
+                    until: until.min(held),
                 };
             }
-            until = quantities::earlier(until, step.span.until);
+            until = until.min(step.span.until);
+        }
+        Choice { at: None, until }
+    }
+
+    // In every minute of a period, by the changes of levels. Without forced work nothing is found, so changes of deratings are
+    // passed over.
+    fn sweep_lanes(&self, period: Period, limits: Limits) -> SweepResult
+        ensures { result ≡ found_in (lane_levels self.now) limits period.start.0 period.end.0 }
+    {
+        let end = period.end;
+        let mut places = [0u16; 9];
+        let mut m = period.start;
+        let mut g = nothing_found();
+        while m.0 < end.0 {
+            let forced = self.choose_lane(&mut places, FORCED_WORK, m);
+            if forced.at.is_some() {
+                let positive = self.choose_lane(&mut places, POSITIVE_DERATING, m);
+                let negative = self.choose_lane(&mut places, NEGATIVE_DERATING, m);
+                let chosen = Choices {
+                    forced,
+                    positive,
+                    negative,
+                };
+                let start = m;
+                let stretch = limits.sweep_chosen(chosen, Period { start, end });
+                let more = stretch.found;
+                g = both_found(g, more);
+                m = stretch.until;
+            } else {
+                m = forced.until.min(end);
+            }
+        }
+        g
+    }
+
+    // The extremes of the lanes of a type that share a minute with the period.
+    fn extremes_of(&self, record_type: u8, period: Period) -> Option<Extremes>
+        ensures { CoversType self.now record_type period result }
+    {
+        // of no power
+        let mut e = Extremes {
+            lowest: Kilowatt(4294967295),
+            highest: Kilowatt(0),
+        };
+        for i in 0..LANE_COUNT {
+            let Some(lane) = self.each[i as usize] else {
+                continue;
+            };
+            let is_asked = (lane.record_type == record_type)
+                & quantities::overlapping(lane.period, period);
+            if !is_asked {
+                continue;
+            }
+            e = self.pairs(i).extremes_in(lane.count, e);
+        }
+        if e.lowest <= e.highest { Some(e) } else { None }
+    }
+
+    // The minutes of a period to be asked: outside them every forced level passes the test.
+    fn asked_of<F: Fn(Kilowatt) -> bool + Copy>(&self, period: Period, passes: F) -> Period
+        requires { F.IsAlwaysCallable passes }
+        ensures { AsksType self.now forced_work period (λ p. F.post passes p true) result }
+    {
+        let mut asked = Period {
+            start: LAST,
+            end: Minute(0),
+        };
+        for i in 0..LANE_COUNT {
+            let Some(lane) = self.each[i as usize] else {
+                continue;
+            };
+            let is_asked = (lane.record_type == FORCED_WORK)
+                & quantities::overlapping(lane.period, period);
+            if !is_asked {
+                continue;
+            }
+            asked = self.pairs(i).asked_in(lane, passes, asked);
+        }
+        asked
+    }
+}
+
+// The minutes of two periods.
+fn common(p: Period, q: Period) -> Period
+    ensures { result ≡ common p q }
+{
+    Period {
+        start: p.start.max(q.start),
+        end: p.end.min(q.end),
+    }
+}
+
+fn fits_w1_m1(
+    range: PowerRange,
+    level: Kilowatt,
+    positive: Option<Kilowatt>,
+    negative: Option<Kilowatt>,
+) -> bool
+    ensures { result ≡ fits_w1_m1 range level.0 positive negative }
+{
+    let level = quantities::wide(level);
+    let max = quantities::wide(range.max);
+    let min = quantities::wide(range.min);
+    positive.is_none_or(|p| level + quantities::wide(p) <= max)
+        & negative.is_none_or(|n| min + quantities::wide(n) <= level)
+}
+
+fn power_of(level: Option<Kilowatt>) -> u64
+    ensures { (result ≡ power_of level) × (result < 4294967296) }
+{
+    level.map_or(0, |p| quantities::wide(p))
+}
+
+fn fits_z1(
+    range: PowerRange,
+    level: Kilowatt,
+    positive: Option<Kilowatt>,
+    negative: Option<Kilowatt>,
+) -> bool
+    ensures { result ≡ fits_z1 range level.0 positive negative }
+{
+    let sum = quantities::wide(level)
+        + quantities::wide(range.min)
+        + power_of(positive)
+        + power_of(negative);
+    !(positive.is_some() | negative.is_some()) | (sum <= quantities::wide(range.max))
+}
+
+impl Limits {
+    fn fits_beside(
+        self,
+        level: Kilowatt,
+        positive: Option<Kilowatt>,
+        negative: Option<Kilowatt>,
+    ) -> bool
+        ensures { result ≡ fits_beside self.kind self.range level.0 positive negative }
+    {
+        let others = !((self.kind == W1) | (self.kind == M1))
+            | fits_w1_m1(self.range, level, positive, negative);
+        let z1 = fits_z1(self.range, level, positive, negative);
+        records::choose(self.kind == Z1, z1, others)
+    }
+
+    fn levels_fit(self, l: Levels) -> bool
+        ensures { result ≡ levels_fit self.kind self.range l }
+    {
+        match l.forced {
+            Some(level) => self.fits_beside(level, l.positive, l.negative),
+            None => true,
         }
     }
-    no_choice(until)
-}
 
-// The level of a choice at a place, up to the end of the pair there.
-fn level_at(report: &[u8], slot: &[u8], c: Choice, place: u16) -> LevelSpan
-    ensures { result ≡ span_at report.now slot.now c place }
-{
-    let pair = pair_of(report, slot, c.lane == 0, place);
-    let until = pair.end;
-    if c.there {
-        let power = pair.power;
-        let level = Level { there: true, power };
-        return LevelSpan { level, until };
+    fn is_high(self, level: Kilowatt) -> bool
+        ensures { result ≡ is_high self.kind self.range level.0 }
+    {
+        let level = quantities::wide(level);
+        let max = quantities::wide(self.range.max);
+        records::choose(
+            self.kind == Z1,
+            max < level + quantities::wide(self.range.min),
+            max < level,
+        )
     }
-    none_until(until)
-}
 
-// The place after a minute: one more where its pair has ended.
-fn place_after(place: u16, count: u16, until: Minute, m: Minute) -> u16
-    requires { place < count }
-    ensures { result ≡ place_after place until.0 m.0 }
-{
-    if until.0 <= m.0 { place + 1 } else { place }
-}
+    fn is_low(self, level: Kilowatt) -> bool
+        ensures { result ≡ is_low self.kind self.range level.0 }
+    {
+        ((self.kind == W1) | (self.kind == M1)) & (level < self.range.min)
+    }
 
-// The three levels, up to the first change of one.
-fn levels_of(f: LevelSpan, p: LevelSpan, n: LevelSpan) -> LevelsSpan
-    ensures { result ≡ levels_of f p n }
-{
-    let forced = f.level;
-    let positive = p.level;
-    let negative = n.level;
-    let sooner = quantities::earlier(f.until, p.until);
-    let until = quantities::earlier(sooner, n.until);
-    let levels = Levels {
-        forced,
-        positive,
-        negative,
-    };
-    LevelsSpan { levels, until }
-}
+    fn above_max(self, l: Levels) -> bool
+        ensures { result ≡ above_max self.kind self.range l }
+    {
+        l.positive.is_none() & l.forced.is_some_and(|level| self.is_high(level))
+    }
 
-fn fits_w1_m1(range: PowerRange, l: Levels) -> bool
-    ensures { result ≡ fits_w1_m1 range l }
-{
-    let level = quantities::wide(l.forced.power);
-    (!l.positive.there
-        | (level + quantities::wide(l.positive.power) <= quantities::wide(range.max)))
-        & (!l.negative.there
-            | (quantities::wide(range.min) + quantities::wide(l.negative.power) <= level))
-}
+    fn below_min(self, l: Levels) -> bool
+        ensures { result ≡ below_min self.kind self.range l }
+    {
+        l.negative.is_none() & l.forced.is_some_and(|level| self.is_low(level))
+    }
 
-fn fits_z1(range: PowerRange, l: Levels) -> bool
-    ensures { result ≡ fits_z1 range l }
-{
-    let sum = quantities::wide(l.forced.power)
-        + quantities::wide(range.min)
-        + quantities::wide(l.positive.power)
-        + quantities::wide(l.negative.power);
-    !(l.positive.there | l.negative.there) | (sum <= quantities::wide(range.max))
-}
+    // What a stretch of minutes with these levels adds.
+    fn add_span(self, g: SweepResult, l: Levels) -> SweepResult
+        ensures { result ≡ with_span g self l }
+    {
+        SweepResult {
+            fits: g.fits & self.levels_fit(l),
+            above: g.above | self.above_max(l),
+            below: g.below | self.below_min(l),
+        }
+    }
 
-fn levels_fit(kind: u8, range: PowerRange, l: Levels) -> bool
-    ensures { result ≡ levels_fit kind range l }
-{
-    let others = !((kind == W1) | (kind == M1)) | fits_w1_m1(range, l);
-    !l.forced.there | records::choose(kind == Z1, fits_z1(range, l), others)
-}
+    // As long as the choices stay, a turn for each change of a level; it stops where a pair does not end after the minute.
+    fn sweep_chosen(self, chosen: Choices, period: Period) -> Stretch
+        requires start_lt_end { period.start.0 < period.end.0 }
+        requires ready { Ready chosen period.start.0 }
+        ensures { Ran (chosen_levels chosen.entry) self period.start.0 (soonest chosen.entry period.end) result }
+    {
+        let end = chosen.forced.until.min(chosen.positive.until);
+        let end = end.min(chosen.negative.until).min(period.end);
+        let mut f = chosen.forced.at;
+        let mut p = chosen.positive.at;
+        let mut n = chosen.negative.at;
+        let mut m = period.start;
+        let mut found = nothing_found();
+        while m.0 < end.0 {
+            let forced = level_at(f);
+            let positive = level_at(p);
+            let negative = level_at(n);
+            let sooner = forced.until.min(positive.until);
+            let until = sooner.min(negative.until).min(end);
+            if until <= m {
+                return Stretch { found, until: m };
+            }
+            let levels = Levels {
+                forced: forced.level,
+                positive: positive.level,
+                negative: negative.level,
+            };
+            found = self.add_span(found, levels);
+            m = until;
+            f = moved(f, forced.until, m);
+            p = moved(p, positive.until, m);
+            n = moved(n, negative.until, m);
+        }
+        Stretch { found, until: m }
+    }
 
-fn above_max(kind: u8, range: PowerRange, l: Levels) -> bool
-    ensures { result ≡ above_max kind range l }
-{
-    let level = quantities::wide(l.forced.power);
-    let max = quantities::wide(range.max);
-    let high = records::choose(
-        kind == Z1,
-        max < level + quantities::wide(range.min),
-        max < level,
-    );
-    l.forced.there & !l.positive.there & high
-}
+    // The lowest and the highest forced level fit beside the highest deratings.
+    fn extremes_fit(
+        self,
+        forced: Extremes,
+        positive: Option<Kilowatt>,
+        negative: Option<Kilowatt>,
+    ) -> bool
+        ensures { result ≡ extremes_fit self forced positive negative }
+    {
+        self.fits_beside(forced.highest, positive, negative)
+            & self.fits_beside(forced.lowest, positive, negative)
+    }
 
-fn below_min(kind: u8, range: PowerRange, l: Levels) -> bool
-    ensures { result ≡ below_min kind range l }
-{
-    l.forced.there
-        & !l.negative.there
-        & ((kind == W1) | (kind == M1))
-        & (l.forced.power.0 < range.min.0)
-}
+    // What warnings 2 and 4 ask of a level itself.
+    fn power_within(self, power: Kilowatt) -> bool
+        ensures { result ≡ power_within self power.0 }
+    {
+        !self.is_high(power) & !self.is_low(power)
+    }
 
-// What was found, with one span more.
-fn add_span(g: SweepResult, kind: u8, range: PowerRange, l: Levels) -> SweepResult
-    ensures { result ≡ with_span g kind range l }
-{
-    SweepResult {
-        fits: g.fits & levels_fit(kind, range, l),
-        above: g.above | above_max(kind, range, l),
-        below: g.below | below_min(kind, range, l),
+    // Every pair is tested, without an early exit: the turns are then alike.
+    fn pairs_within(self, z: &[u8]) -> bool
+        ensures { result ≡ pairs_within z.now self }
+    {
+        let count = block::stored_count(z);
+        let mut ok = true;
+        for j in 0..count {
+            let pair = block::pair_at(z, j);
+            ok = ok & self.power_within(pair.power);
+        }
+        ok
+    }
+
+    fn slot_within(self, b: &[u8], i: u8, counted: bool, direction: u8) -> bool
+        ensures { result ≡ slot_within b.now i counted direction self }
+    {
+        if !counted {
+            return true;
+        }
+        let z = block::slot_at(b, i);
+        let r = block::record_in(z);
+        if (r.record_type == FORCED_WORK) & (r.direction == direction) {
+            return self.pairs_within(z);
+        }
+        true
+    }
+
+    fn forced_within(self, b: &[u8], counted: [bool; 8], direction: u8) -> bool
+        ensures { result ≡ forced_within b.now counted direction self }
+    {
+        let mut ok = true;
+        for i in 0..SLOT_COUNT {
+            ok = ok & self.slot_within(b, i, counted[i as usize], direction);
+        }
+        ok
     }
 }
 
@@ -470,99 +690,6 @@ fn nothing_found() -> SweepResult
     }
 }
 
-// Along the lanes chosen, a turn for each change of a level; it stops where a pair does not end after the minute.
-fn sweep_chosen(
-    report: &[u8],
-    f: &[u8],
-    p: &[u8],
-    n: &[u8],
-    chosen: Choices,
-    period: Period,
-    kind: u8,
-    range: PowerRange,
-) -> Stretch
-    requires start_lt_end { period.start.0 < period.end.0 }
-    requires ahead_all { AheadAll report.now f.now p.now n.now chosen period.start.0 period.end.0 }
-    ensures { Ran (chosen_levels report.now f.now p.now n.now chosen) kind range period.start.0 period.end.0 result }
-{
-    let end = period.end;
-    let mut i = chosen.forced.place;
-    let mut j = chosen.positive.place;
-    let mut k = chosen.negative.place;
-    let mut m = period.start;
-    let mut found = nothing_found();
-    while m.0 < end.0 {
-        let forced = level_at(report, f, chosen.forced, i);
-        let positive = level_at(report, p, chosen.positive, j);
-        let negative = level_at(report, n, chosen.negative, k);
-        let span = levels_of(forced, positive, negative);
-        let until = quantities::earlier(span.until, end);
-        if until.0 <= m.0 {
-            return Stretch { found, until: m };
-        }
-        let levels = span.levels;
-        found = add_span(found, kind, range, levels);
-        m = until;
-        i = place_after(i, chosen.forced.count, forced.until, m);
-        j = place_after(j, chosen.positive.count, positive.until, m);
-        k = place_after(k, chosen.negative.count, negative.until, m);
-    }
-    Stretch { found, until: m }
-}
-
-// A choice of a lane, or of none beside the forced work: then it reads that one's pairs.
-fn beside(c: Choice, forced: Choice) -> Choice
-    ensures { result ≡ beside_of c forced }
-{
-    if c.there {
-        return c;
-    }
-    let until = c.until;
-    Choice {
-        there: false,
-        lane: forced.lane,
-        count: forced.count,
-        place: forced.place,
-        until,
-    }
-}
-
-// From a minute on, as long as the choices stay.
-fn sweep_choices(
-    b: &[u8],
-    report: &[u8],
-    chosen: Choices,
-    period: Period,
-    kind: u8,
-    range: PowerRange,
-) -> Stretch
-    requires start_lt_end { period.start.0 < period.end.0 }
-    requires ready { Ready b.now report.now chosen period.start.0 }
-    ensures { Ran (choice_levels b.now report.now chosen) kind range period.start.0 (soonest chosen period.end) result }
-{
-    let forced = chosen.forced;
-    let positive = beside(chosen.positive, forced);
-    let negative = beside(chosen.negative, forced);
-    let sooner = quantities::earlier(forced.until, positive.until);
-    let start = period.start;
-    let end = quantities::earlier(quantities::earlier(sooner, negative.until), period.end);
-    let held = Choices {
-        forced,
-        positive,
-        negative,
-    };
-    sweep_chosen(
-        report,
-        lane_slot(b, forced.lane),
-        lane_slot(b, positive.lane),
-        lane_slot(b, negative.lane),
-        held,
-        Period { start, end },
-        kind,
-        range,
-    )
-}
-
 // What two stretches of minutes hold together.
 fn both_found(g: SweepResult, h: SweepResult) -> SweepResult
     ensures { result ≡ both_found g h }
@@ -574,174 +701,6 @@ fn both_found(g: SweepResult, h: SweepResult) -> SweepResult
     }
 }
 
-// In every minute of a period, by the changes of levels. Without forced work nothing is found, so changes of deratings are
-// passed over.
-fn sweep_lanes(
-    b: &[u8],
-    report: &[u8],
-    lanes: [Lane; 9],
-    period: Period,
-    kind: u8,
-    range: PowerRange,
-) -> SweepResult
-    ensures { result ≡ found_in (lane_levels b.now report.now (lane_in lanes)) kind range period.start.0 period.end.0 }
-{
-    let end = period.end;
-    let mut places = [0u16; 9];
-    let mut m = period.start;
-    let mut g = nothing_found();
-    while m.0 < end.0 {
-        let forced = choose_lane(b, report, lanes, &mut places, FORCED_WORK, m);
-        if forced.there {
-            let positive = choose_lane(b, report, lanes, &mut places, POSITIVE_DERATING, m);
-            let negative = choose_lane(b, report, lanes, &mut places, NEGATIVE_DERATING, m);
-            let chosen = Choices {
-                forced,
-                positive,
-                negative,
-            };
-            let start = m;
-            let stretch = sweep_choices(b, report, chosen, Period { start, end }, kind, range);
-            let more = stretch.found;
-            g = both_found(g, more);
-            m = stretch.until;
-        } else {
-            m = quantities::earlier(forced.until, end);
-        }
-    }
-    g
-}
-
-fn lower(p: Kilowatt, q: Kilowatt) -> Kilowatt
-    ensures { (result.0 ≤ p.0) × (result.0 ≤ q.0) }
-{
-    if p.0 < q.0 { p } else { q }
-}
-
-fn higher(p: Kilowatt, q: Kilowatt) -> Kilowatt
-    ensures { (p.0 ≤ result.0) × (q.0 ≤ result.0) }
-{
-    if p.0 < q.0 { q } else { p }
-}
-
-// The extremes of a lane's pairs and of what was seen before.
-fn extremes_in(report: &[u8], slot: &[u8], in_report: bool, count: u16, seen: Extremes) -> Extremes
-    ensures { WiderBy (pair_of report.now slot.now in_report) count seen result }
-{
-    let mut e = seen;
-    for j in 0..count {
-        let pair = pair_of(report, slot, in_report, j);
-        let lowest = lower(e.lowest, pair.power);
-        let highest = higher(e.highest, pair.power);
-        e = Extremes {
-            there: true,
-            lowest,
-            highest,
-        };
-    }
-    e
-}
-
-// The extremes of the lanes of a type that share a minute with the period.
-fn extremes_of(
-    b: &[u8],
-    report: &[u8],
-    lanes: [Lane; 9],
-    record_type: u8,
-    period: Period,
-) -> Extremes
-    ensures { CoversType b.now report.now lanes record_type period result }
-{
-    let lowest = Kilowatt(4294967295);
-    let highest = Kilowatt(0);
-    let mut e = Extremes {
-        there: false,
-        lowest,
-        highest,
-    };
-    let mut i = 0u8;
-    while i < LANE_COUNT {
-        let at = i;
-        i += 1;
-        let lane = lanes[at as usize];
-        if (lane.record_type == record_type) & quantities::overlapping(lane.period, period) {
-            e = extremes_in(report, lane_slot(b, at), at == 0, lane.count, e);
-        }
-    }
-    e
-}
-
-fn extremes_fit(kind: u8, range: PowerRange, f: Extremes, p: Extremes, n: Extremes) -> bool
-    ensures { result ≡ extremes_fit kind range f p n }
-{
-    let power = p.highest;
-    let there = p.there;
-    let positive = Level { there, power };
-    let power = n.highest;
-    let there = n.there;
-    let negative = Level { there, power };
-    let power = f.highest;
-    let there = f.there;
-    let forced = Level { there, power };
-    let highest = Levels {
-        forced,
-        positive,
-        negative,
-    };
-    let power = f.lowest;
-    let forced = Level { there, power };
-    let lowest = Levels {
-        forced,
-        positive,
-        negative,
-    };
-    levels_fit(kind, range, highest) & levels_fit(kind, range, lowest)
-}
-
-fn fits_beside(kind: u8, range: PowerRange, p: Extremes, n: Extremes, power: Kilowatt) -> bool
-    ensures { result ≡ fits_beside kind range p n power }
-{
-    let lowest = power;
-    let highest = power;
-    let f = Extremes {
-        there: true,
-        lowest,
-        highest,
-    };
-    extremes_fit(kind, range, f, p, n)
-}
-
-// What warnings 2 and 4 ask of a level itself.
-fn power_within(kind: u8, range: PowerRange, power: Kilowatt) -> bool
-    ensures { result ≡ power_within kind range power.0 }
-{
-    let level = quantities::wide(power);
-    let max = quantities::wide(range.max);
-    let high = records::choose(
-        kind == Z1,
-        max < level + quantities::wide(range.min),
-        max < level,
-    );
-    !high & !(((kind == W1) | (kind == M1)) & (power.0 < range.min.0))
-}
-
-fn passes_alone(kind: u8, range: PowerRange, aside: Aside, power: Kilowatt) -> bool
-    ensures { result ≡ passes_alone kind range aside power }
-{
-    if aside.beside {
-        let p = aside.positive;
-        let n = aside.negative;
-        return fits_beside(kind, range, p, n, power);
-    }
-    power_within(kind, range, power)
-}
-
-fn later(m: Minute, n: Minute) -> Minute
-    ensures { result ≡ later_of m n }
-{
-    if m.0 < n.0 { n } else { m }
-}
-
 // The minutes to be asked, with those of a pair whose level does not fit.
 fn with_unfit(asked: Period, from: Minute, to: Minute, fit: bool) -> Period
     ensures { result ≡ with_unfit asked from to fit }
@@ -749,70 +708,10 @@ fn with_unfit(asked: Period, from: Minute, to: Minute, fit: bool) -> Period
     if fit {
         return asked;
     }
-    let start = quantities::earlier(asked.start, from);
-    let end = later(asked.end, to);
-    Period { start, end }
-}
-
-// A lane's pairs: each begins where the one before it ends.
-fn asked_in(
-    report: &[u8],
-    slot: &[u8],
-    in_report: bool,
-    lane: Lane,
-    kind: u8,
-    range: PowerRange,
-    aside: Aside,
-    seen: Period,
-) -> Period
-    ensures { AsksBy (passes_alone kind range aside) (pair_of report.now slot.now in_report) lane.count lane.period.start.0 seen result }
-{
-    let mut asked = seen;
-    let mut from = lane.period.start;
-    for j in 0..lane.count {
-        let pair = pair_of(report, slot, in_report, j);
-        let to = pair.end;
-        let fit = passes_alone(kind, range, aside, pair.power);
-        asked = with_unfit(asked, from, to, fit);
-        from = to;
+    Period {
+        start: asked.start.min(from),
+        end: asked.end.max(to),
     }
-    asked
-}
-
-// The minutes of a period to be asked: outside them every forced level passes alone.
-fn asked_of(
-    b: &[u8],
-    report: &[u8],
-    lanes: [Lane; 9],
-    period: Period,
-    kind: u8,
-    range: PowerRange,
-    aside: Aside,
-) -> Period
-    ensures { AsksType b.now report.now lanes forced_work period (passes_alone kind range aside) result }
-{
-    let start = Minute(4294967295);
-    let end = Minute(0);
-    let mut asked = Period { start, end };
-    let mut i = 0u8;
-    while i < LANE_COUNT {
-        let at = i;
-        i += 1;
-        let lane = lanes[at as usize];
-        if (lane.record_type == FORCED_WORK) & quantities::overlapping(lane.period, period) {
-            asked = asked_in(
-                report,
-                lane_slot(b, at),
-                at == 0,
-                lane,
-                kind,
-                range,
-                aside,
-                asked,
-            );
-        }
-    }
-    asked
 }
 
 // Which types the slots that count have.
@@ -854,10 +753,9 @@ pub fn fits(
     swept: Swept,
     direction: u8,
     period: Period,
-    kind: u8,
-    range: PowerRange,
+    limits: Limits,
 ) -> bool
-    ensures { result ≡ levels_every (levels_fit kind range) (swept_records b.now report.now swept.counted swept.with_report) direction period.start.0 period.end.0 }
+    ensures { result ≡ levels_every (levels_fit limits.kind limits.range) (swept_records b.now report.now swept.counted swept.with_report) direction period.start.0 period.end.0 }
 {
     let counted = swept.counted;
     let types = counted_types(b, counted);
@@ -869,79 +767,29 @@ pub fn fits(
         return true;
     }
     let lanes = lanes_of(b, report, swept, direction);
-    let forced = extremes_of(b, report, lanes, FORCED_WORK, period);
-    if !forced.there {
+    let Some(forced) = lanes.extremes_of(FORCED_WORK, period) else {
         return true;
-    }
-    let positive = extremes_of(b, report, lanes, POSITIVE_DERATING, period);
-    let negative = extremes_of(b, report, lanes, NEGATIVE_DERATING, period);
-    if extremes_fit(kind, range, forced, positive, negative) {
-        return true;
-    }
-    let aside = Aside {
-        beside: true,
-        positive,
-        negative,
     };
-    let asked = asked_of(b, report, lanes, period, kind, range, aside);
-    let start = later(period.start, asked.start);
-    let end = quantities::earlier(period.end, asked.end);
-    sweep_lanes(b, report, lanes, Period { start, end }, kind, range).fits
-}
-
-// Every pair is tested, without an early exit: the turns are then alike.
-fn pairs_within(z: &[u8], kind: u8, range: PowerRange) -> bool
-    ensures { result ≡ pairs_within z.now kind range }
-{
-    let count = block::stored_count(z);
-    let mut ok = true;
-    for j in 0..count {
-        let pair = block::pair_at(z, j);
-        ok = ok & power_within(kind, range, pair.power);
-    }
-    ok
-}
-
-fn slot_within(b: &[u8], i: u8, counted: bool, direction: u8, kind: u8, range: PowerRange) -> bool
-    ensures { result ≡ slot_within b.now i counted direction kind range }
-{
-    if !counted {
+    let positive = highest_of(lanes.extremes_of(POSITIVE_DERATING, period));
+    let negative = highest_of(lanes.extremes_of(NEGATIVE_DERATING, period));
+    if limits.extremes_fit(forced, positive, negative) {
         return true;
     }
-    let z = block::slot_at(b, i);
-    let r = block::record_in(z);
-    if (r.record_type == FORCED_WORK) & (r.direction == direction) {
-        return pairs_within(z, kind, range);
-    }
-    true
+    let asked = lanes.asked_of(
+        period,
+        |p: Kilowatt| -> bool
+            ensures { result ≡ fits_beside limits.kind limits.range p.0 positive negative }
+        { limits.fits_beside(p, positive, negative) },
+    );
+    lanes.sweep_lanes(common(period, asked), limits).fits
 }
 
-fn forced_within(b: &[u8], counted: [bool; 8], direction: u8, kind: u8, range: PowerRange) -> bool
-    ensures { result ≡ forced_within b.now counted direction kind range }
+fn highest_of(e: Option<Extremes>) -> Option<Kilowatt>
+    ensures { result ≡ highest_of e }
 {
-    let mut ok = true;
-    for i in 0..SLOT_COUNT {
-        ok = ok & slot_within(b, i, counted[i as usize], direction, kind, range);
-    }
-    ok
-}
-
-// No level is asked to fit beside deratings.
-fn within_limits() -> Aside
-    ensures { result.beside ≡ false }
-{
-    let lowest = Kilowatt(0);
-    let highest = Kilowatt(0);
-    let positive = Extremes {
-        there: false,
-        lowest,
-        highest,
-    };
-    let negative = positive;
-    Aside {
-        beside: false,
-        positive,
-        negative,
+    match e {
+        Some(e) => Some(e.highest),
+        None => None,
     }
 }
 
@@ -951,12 +799,11 @@ pub fn warn(
     counted: [bool; 8],
     direction: u8,
     period: Period,
-    kind: u8,
-    range: PowerRange,
+    limits: Limits,
 ) -> LevelWarnings
-    ensures { result ≡ level_warnings kind range (counted_records b.now counted) direction period.start.0 period.end.0 }
+    ensures { result ≡ level_warnings limits.kind limits.range (counted_records b.now counted) direction period.start.0 period.end.0 }
 {
-    if forced_within(b, counted, direction, kind, range) {
+    if limits.forced_within(b, counted, direction) {
         return LevelWarnings {
             above: false,
             below: false,
@@ -967,10 +814,13 @@ pub fn warn(
         with_report: false,
     };
     let lanes = lanes_of(b, b, swept, direction);
-    let asked = asked_of(b, b, lanes, period, kind, range, within_limits());
-    let start = later(period.start, asked.start);
-    let end = quantities::earlier(period.end, asked.end);
-    let g = sweep_lanes(b, b, lanes, Period { start, end }, kind, range);
+    let asked = lanes.asked_of(
+        period,
+        |p: Kilowatt| -> bool
+            ensures { result ≡ power_within limits p.0 }
+        { limits.power_within(p) },
+    );
+    let g = lanes.sweep_lanes(common(period, asked), limits);
     LevelWarnings {
         above: g.above,
         below: g.below,

@@ -9,7 +9,7 @@ pub returns : goal.returns
 returns c = (
   minutes-warn _ _ c.if-h-ne-FORCED_WORK.false
       c.used_slots-counted.ensures c.unit_head-unit.ensures
-      c.range_of-range.ensures c.warn-g.ensures c.worth_of.ensures.0
+      c.range_of.ensures c.warn-g.ensures c.worth_of.ensures.0
       c.worth_of-2.ensures.0,
   omega (arith, c.worth_of.ensures.1, c.worth_of-2.ensures.1),
 )

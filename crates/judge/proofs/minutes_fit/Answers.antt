@@ -15,4 +15,4 @@ pub returns : goal.returns
 unfolding pick
 returns c =
     rw c.if-not-is_asked.false (minutes-swept _ c.args.unit _ c.is_levelled.ensures c.if-not-is_levelled.false
-    c.range_of-range.ensures c.fits.ensures)
+    c.range_of.ensures c.fits.ensures)

@@ -1,26 +1,28 @@
-use mathlib.Core.Path.{◌∙◌}
-use Rattle.levels.proofs.Choosing.{records-levels}
-use Rattle.levels.proofs.Turns.{found-records}
+use mathlib.Core.Path.{subst, sym}
+use Rattle.std.proofs.Common.{Option}
+use Rattle.levels.specs.declared.Extremes.{Extremes}
+use Rattle.levels.specs.Extremes.{CoversType}
 use Rattle.levels.proofs.Unforced.{fits-apart}
-use Rattle.levels.proofs.Bounds.{fits-unforced, fits-extremes, fits-swept}
+use Rattle.levels.proofs.Bounds.{fits-unforced, fits-extremes}
 use Rattle.levels.proofs.Asked.{asked-enough}
 use Rattle.levels.proofs.fits.Goals as goal
 
 pub returns-then-not-types_meet : goal.returns-then-not-types_meet
 returns-then-not-types_meet c = fits-apart _ _ _ _ _ _ _ _ _ c.head_of.ensures c.counted_types-types.ensures c.types_meet.ensures c.if-not-types_meet.true
 
-pub returns-then-not-forced : goal.returns-then-not-forced
-returns-then-not-forced c = fits-unforced _ _ _ _ _ _ _ _ (records-levels _ _ _ _ c.lanes_of-lanes.ensures)
-    c.extremes_of-forced.ensures c.if-not-forced.true
+pub returns-in_default : goal.returns-in_default
+returns-in_default c =
+    fits-unforced _ _ _ _ c.args.limits c.lanes_of-lanes.ensures
+    (subst (λ (e : Option Extremes). CoversType c.lanes_of-lanes.result 4 c.args.period e) c.in_default.is c.extremes_of.ensures)
 
 pub returns-then-extremes_fit : goal.returns-then-extremes_fit
 returns-then-extremes_fit c =
-    fits-extremes _ _ _ _ _ _ _ _ (records-levels _ _ _ _ c.lanes_of-lanes.ensures) c.extremes_of-forced.ensures
-    c.extremes_of-positive.ensures c.extremes_of-negative.ensures c.extremes_fit.ensures c.if-extremes_fit.true
+    fits-extremes _ _ _ _ c.args.limits c.lanes_of-lanes.ensures
+    (subst (λ (e : Option Extremes). CoversType c.lanes_of-lanes.result 4 c.args.period e) c.in-Some.is c.extremes_of.ensures)
+    c.extremes_of-2.ensures c.extremes_of-3.ensures
+    (rw (c.highest_of-positive.ensures, c.highest_of-negative.ensures) at c.extremes_fit.ensures) c.if-extremes_fit.true
 
 pub returns : goal.returns
 returns c =
-    let lanes = records-levels _ _ _ _ c.lanes_of-lanes.ensures in
-    fits-swept _ _ _ _ _ _ (c.sweep_lanes.ensures ∙ found-records _ _ _ _ _ _ lanes)
-    ∙ asked-enough _ _ _ _ _ _ _ _ lanes c.extremes_of-positive.ensures c.extremes_of-negative.ensures
-    c.asked_of-asked.ensures c.later-start.ensures c.earlier-end.ensures
+    asked-enough _ _ _ _ c.args.limits c.lanes_of-lanes.ensures c.extremes_of-2.ensures c.extremes_of-3.ensures
+    (λ k e. sym (rw (c.highest_of-positive.ensures, c.highest_of-negative.ensures) at e.1)) c.asked_of-asked.ensures (rw c.common.ensures at c.sweep_lanes.ensures)

@@ -1,10 +1,12 @@
-use Rattle.levels.proofs.Counted.{slot-uncounted, slot_counted}
+use Rattle.std.proofs.Common.{rules}
+use Rattle.fields.specs.Lists.{pick}
+use Rattle.levels.specs.Lanes.{lane_of, slot_lane}
 use Rattle.levels.proofs.slot_lane.Goals as goal
 
 pub returns-then-not-counted : goal.returns-then-not-counted
-returns-then-not-counted c = slot-uncounted _ _ _ _ c.if-not-counted.true c.no_lane.ensures
+unfolding slot_lane lane_of pick
+returns-then-not-counted c = rw c.if-not-counted.true
 
 pub returns : goal.returns
-returns c = slot_counted _ _ _ _ c.if-not-counted.false
-    c.slot_at-z.ensures c.record_in-r.ensures
-    c.stored_count.ensures c.lane_of.ensures
+unfolding slot_lane
+returns c = rw c.if-not-counted.false (search rules)

@@ -1,3 +1,4 @@
+use Rattle.std.proofs.Common.{rules}
 use Rattle.fields.specs.Lists.{pick}
 use Rattle.levels.proofs.with_unfit.Goals as goal
 
@@ -7,4 +8,4 @@ returns-then-fit c = rw c.if-fit.true
 
 pub returns : goal.returns
 unfolding pick
-returns c = rw (c.if-fit.false, c.earlier-start.ensures, c.later-end.ensures)
+returns c = rw (c.if-fit.false) (search rules)

@@ -1,10 +1,10 @@
 -- "Warnings, added up, judge only the reported record, 1 to 4 against the block afterwards; events and withdrawals carry 0".
-use Rattle.std.specs.Prelude.{ℕ, List, [], ◌∷◌, ◌++◌, Bool, true, not}
+use Rattle.std.specs.Prelude.{ℕ, List, [], ◌∷◌, ◌++◌, Bool, true, not, Option, None, Some}
+use Rattle.quantities.specs.declared.Kilowatt.{Kilowatt}
 use Rattle.report.specs.Report.{head_of}
-use Rattle.rules.specs.declared.Level.{Level}
 use Rattle.rules.specs.declared.Levels.{Levels}
 use Rattle.rules.specs.Codes.{positive_derating, negative_derating, forced_work, executed, W1, R, RP}
-use Rattle.rules.specs.Minutes.{no_level, above_max, below_min}
+use Rattle.rules.specs.Minutes.{above_max, below_min}
 use Rattle.rules.specs.After.{warns_overlap, warns_minute, warns_left}
 use Rattle.rules.specs.Samples.{part_of, ◌but◌, direction, mark, identifier, stamp, created, levelled, planned_stop, begun_stop, event_at, slot_of}
 use Rattle.rules.specs.Boundaries.Tests.{entry_w, unit_w, unit_m, unit_z, unit_a, row, positive, negative, forced, brief, off_grid_at, held, changed, withdrawn, warns}
@@ -54,10 +54,10 @@ warning1 =
 abbrev pub two_levels : ℕ → ℕ → List ℕ
 two_levels before after = created forced_work 13 15 (part_of 13 14 before ∷ part_of 14 15 after ∷ []) but mark executed but stamp 14
 
-abbrev pub level : ℕ → Level
-level power = record { there = true; power = record { 0 = power } }
+abbrev pub level : ℕ → Option Kilowatt
+level power = Some (record { 0 = power })
 
-abbrev pub levels : Level → Level → Level → Levels
+abbrev pub levels : Option Kilowatt → Option Kilowatt → Option Kilowatt → Levels
 levels forced positive negative = record { forced = forced; positive = positive; negative = negative }
 
 -- "2 forced level above Pmax (Z1: Pmax − Pmin) in a minute without positive derating of its direction"
@@ -76,9 +76,9 @@ warning2 =
     ∷ warns2 unit_w (two_levels 100000 200001)
     -- question 17 leaves no such level beside a positive derating, so the definition alone tells
     ∷ warns2 (unit_w ++ held (brief negative_derating 0)) (brief forced_work 200001)
-    ∷ above_max W1 entry_w.powers.generation (levels (level 200001) no_level no_level)
-    ∷ not (above_max W1 entry_w.powers.generation (levels (level 200001) (level 0) no_level))
-    ∷ not (above_max W1 entry_w.powers.generation (levels no_level no_level no_level))
+    ∷ above_max W1 entry_w.powers.generation (levels (level 200001) None None)
+    ∷ not (above_max W1 entry_w.powers.generation (levels (level 200001) (level 0) None))
+    ∷ not (above_max W1 entry_w.powers.generation (levels None None None))
     -- "judge only the reported record"
     ∷ not (warns2 (unit_w ++ held (brief forced_work 200001)) (brief negative_derating 0))
     ∷ not (warns2 (unit_w ++ held (brief forced_work 200001)) (forced 100000))
@@ -95,9 +95,9 @@ warning4 =
     ∷ warns4 unit_m (brief forced_work 59999 but direction 2)
     ∷ not (warns4 unit_z (brief forced_work 0))
     ∷ warns4 (unit_w ++ held (brief positive_derating 0)) (brief forced_work 79999)
-    ∷ below_min W1 entry_w.powers.generation (levels (level 79999) no_level no_level)
-    ∷ not (below_min W1 entry_w.powers.generation (levels (level 79999) no_level (level 0)))
-    ∷ not (below_min W1 entry_w.powers.generation (levels no_level no_level no_level))
+    ∷ below_min W1 entry_w.powers.generation (levels (level 79999) None None)
+    ∷ not (below_min W1 entry_w.powers.generation (levels (level 79999) None (level 0)))
+    ∷ not (below_min W1 entry_w.powers.generation (levels None None None))
     ∷ not (warns4 (unit_w ++ held (brief forced_work 79999)) (brief positive_derating 0))
     ∷ []
 

@@ -1,6 +1,0 @@
-use Rattle.rules.specs.Minutes.{above_max}
-use Rattle.levels.proofs.above_max.Goals as goal
-
-pub returns : goal.returns
-unfolding above_max
-returns c = cc
