@@ -6,22 +6,24 @@ use mathlib.Core.List.{List, ◌++◌}
 use native.Mathlib.Omega.{arith}
 use lib.Dec.{leb, eqb}
 use lib.ListN.{length, take, drop}
-use borrow.Author.Tests.{eqb-true, eq-eqb, ne_eqb}
-use Rattle.fields.specs.Lists.{pick, and_each, every, part, series}
+use borrow.Author.Tests.{eqb-true}
+use Rattle.fields.specs.Lists.{pick, and_each, every, part}
 use Rattle.fields.proofs.Bools.{passed_over, every_true, range-true}
 use Rattle.fields.proofs.Slices.{part-lent, lent_back}
 use Rattle.report.specs.declared.Head.{Head}
 use Rattle.report.specs.Report.{most_parts, head_of, part_count_of, parts_of, whole}
 use Rattle.rules.specs.declared.Answer.{Answer}
-use Rattle.rules.specs.After.{slot_written, cleared, block_after, some_slot, warnings}
-use Rattle.rules.specs.Questions.{changes_state, leaves}
-use Rattle.rules.specs.Judge.{Verdict, refusal, part_beside, refusal_number, judge}
+use Rattle.rules.specs.After.{block_after, some_slot, warnings}
+use Rattle.rules.specs.Questions.{leaves}
+use Rattle.rules.specs.Judge.{Verdict, told, no_to, part_beside, refusal_number, judge}
+use Rattle.rules.specs.declared.Refusal.{Refusal}
+use Rattle.std.specs.Prelude.{Result, Ok, Err, ⊤}
 use Rattle.rules.specs.declared.UnitHead.{UnitHead}
-use Rattle.rules.specs.Block.{slot_count, block_size, unit_head}
+use Rattle.rules.specs.Block.{block_size, unit_head}
 use Rattle.rules.specs.Whole.{register_whole}
 use Rattle.rules.specs.Desk.{block_at, with_block, question3, answer_to}
 use Rattle.judge.specs.declared.Decision.{Decision}
-use Rattle.judge.specs.Decided.{refused_decision, decision_of}
+use Rattle.judge.specs.Decided.{accepted_decision, decision_of}
 use Rattle.judge.specs.Warned.{warnings_on}
 use Rattle.judge.proofs.Warnings.{warnings-same}
 use Rattle.after.specs.Plan.{FreeSlots, plan_applied}
@@ -31,67 +33,63 @@ use Rattle.after.proofs.Plans.{plan_after}
 abbrev pub Is : Verdict → Answer → List ℕ → Type 0
 Is step a left = (a ≡ step.answer) × (left ≡ step.after)
 
-module _ (b s : List ℕ) {d : Decision} (decided : d ≡ decision_of b s) where
-  number_is : d.number ≡ refusal_number b s
-  unfolding decision_of pick
-  number_is = ap (λ (d : Decision). d.number) decided ∙ by-case (refusal_number b s) (eqb (refusal_number b s) 0) refl where
-    by-case : (n : ℕ) (t : Bool) → eqb n 0 ≡ t
-        → (pick t (record {
-          number = 0;
-          part = 0;
-          cleared = series
-              (cleared b s) 0 slot_count;
-          written = slot_written b s;
-          changes = changes_state b s;
-          left = some_slot (leaves b s);
-        })
-        (refused_decision n (part_beside n (head_of s) (parts_of s)))).number ≡ n
-    by-case n true e = sym (eqb-true n 0 e)
-    by-case n false e = refl
+-- what `ask` says
+pub ask-passed : (n : ℕ) (t : Bool) {r : Result ⊤ Refusal} {y : ⊤} → r ≡ pick t (Ok tt) (Err (no_to n)) → r ≡ Ok y → t ≡ true
+unfolding pick
+ask-passed n true e f = refl
+ask-passed n false e f = grind arith
 
-  refused-decision : eqb (refusal_number b s) 0 ≡ false
-      → d ≡ refused_decision (refusal_number b s) (part_beside (refusal_number b s) (head_of s) (parts_of s))
-  unfolding decision_of
-  refused-decision e = decided ∙ passed_over _ _ refl e
+pub ask-stopped : (n : ℕ) (t : Bool) {r : Result ⊤ Refusal} {x : Refusal} → r ≡ pick t (Ok tt) (Err (no_to n)) → r ≡ Err x
+    → (t ≡ false) × (x ≡ no_to n)
+unfolding pick
+ask-stopped n true e f = grind arith
+ask-stopped n false e f = (refl, grind arith)
 
-  pub refuses : (d.number ≡ 0 → ⊥) → Is (judge b s) (record { number = d.number; warnings = 0; part = d.part }) b
-  unfolding judge
-  refuses ne =
-      let no_zero : eqb (refusal_number b s) 0 ≡ false = ap (λ (k : ℕ). eqb k 0) (sym number_is) ∙ ne_eqb d.number 0 ne in
-      let named = ap (λ (d : Decision). d.part) (refused-decision no_zero) in
-      (rw (passed_over _ _ refl no_zero, number_is, named), rw (passed_over _ _ refl no_zero))
+module _ (b s : List ℕ) {d : Result Decision Refusal} (decided : d ≡ decision_of b s) where
+  first-refusal : Refusal
+  first-refusal = record { number = refusal_number b s; part = part_beside (refusal_number b s) (head_of s) (parts_of s) }
 
-  module _ (long : length b ≡ block_size) (free : FreeSlots b) (few : part_count_of s ≤ most_parts) (zero-now : d.number ≡ 0) where
-    accepted : eqb (refusal_number b s) 0 ≡ true
-    accepted = ap (λ (k : ℕ). eqb k 0) (sym number_is) ∙ eq-eqb d.number 0 zero-now
+  stopped : {x : Refusal} → d ≡ Err x → (eqb (refusal_number b s) 0 ≡ false) × (x ≡ first-refusal)
+  unfolding decision_of pick first-refusal
+  stopped {x} e = by-case (eqb (refusal_number b s) 0) refl (sym decided ∙ e) where
+    by-case : (t : Bool) → eqb (refusal_number b s) 0 ≡ t → pick t (Ok (accepted_decision b s)) (Err first-refusal) ≡ Err x
+        → (eqb (refusal_number b s) 0 ≡ false) × (x ≡ first-refusal)
+    by-case true n p = grind arith
+    by-case false n p = (n, grind arith)
 
-    outcome : d ≡ record {
-      number = 0;
-      part = 0;
-      cleared = series (cleared b s) 0 slot_count;
-      written = slot_written b s;
-      changes = changes_state b s;
-      left = some_slot (leaves b s);
-    }
-    unfolding decision_of pick
-    outcome = decided ∙ rw accepted
+  passed : {y : Decision} → d ≡ Ok y → (eqb (refusal_number b s) 0 ≡ true) × (y ≡ accepted_decision b s)
+  unfolding decision_of pick first-refusal
+  passed {y} e = by-case (eqb (refusal_number b s) 0) refl (sym decided ∙ e) where
+    by-case : (t : Bool) → eqb (refusal_number b s) 0 ≡ t → pick t (Ok (accepted_decision b s)) (Err first-refusal) ≡ Ok y
+        → (eqb (refusal_number b s) 0 ≡ true) × (y ≡ accepted_decision b s)
+    by-case true n p = (n, grind arith)
+    by-case false n p = grind arith
 
+  pub refuses : {x : Refusal} → d ≡ Err x → Is (judge b s) (told (Err x)) b
+  unfolding judge first-refusal
+  refuses {x} e =
+      let no = stopped e in
+      (rw (passed_over _ _ refl no.0, no.1), rw (passed_over _ _ refl no.0))
+
+  module _ (long : length b ≡ block_size) (free : FreeSlots b) (few : part_count_of s ≤ most_parts) {y : Decision} (e : d ≡ Ok y) where
     pub accepts : {left : List ℕ} {h : Head} {w : ℕ}
-        → left ≡ plan_applied b s (record { cleared = d.cleared; written = d.written; changes = d.changes }) → h ≡ head_of s
-        → w ≡ warnings_on left h d.left → Is (judge b s) (record { number = 0; warnings = w; part = 0 }) left
+        → left ≡ plan_applied b s (record { cleared = y.cleared; written = y.written; changes = y.changes }) → h ≡ head_of s
+        → w ≡ warnings_on left h y.left → Is (judge b s) (told (Ok w)) left
     unfolding judge pick
     accepts {left} {h} {w} p head q =
+        let yes = passed e in
+        let zero : refusal_number b s ≡ 0 = eqb-true (refusal_number b s) 0 yes.0 in
         let same : left ≡ block_after b s =
-        p ∙ plan_after b s _ long free few (ap (λ (d : Decision). d.cleared) outcome)
-        (ap (λ (d : Decision). d.written) outcome) (ap (λ (d : Decision). d.changes) outcome) (sym number_is ∙ zero-now) in
-        let moved : warnings_on left h d.left ≡ warnings_on (block_after b s) (head_of s) (some_slot (leaves b s)) = rw
-        (same, head, ap (λ (d : Decision). d.left) outcome) in
+        p ∙ plan_after b s _ long free few (ap (λ (d : Decision). d.cleared) yes.1)
+        (ap (λ (d : Decision). d.written) yes.1) (ap (λ (d : Decision). d.changes) yes.1) zero in
+        let moved : warnings_on left h y.left ≡ warnings_on (block_after b s) (head_of s) (some_slot (leaves b s)) = rw
+        (same, head, ap (λ (d : Decision). d.left) yes.1) in
         let warned : w ≡ warnings b s = q ∙ moved ∙ warnings-same b s in
-        (rw (accepted, warned), same ∙ rw accepted)
+        (rw (yes.0, warned), same ∙ rw yes.0)
 
 -- questions 1 to 3, each after the one before
 module _ (reg s : List ℕ) {x : Bool} (one : x ≡ register_whole reg) where
-  pub no-1 : {a : Answer} → x ≡ false → a ≡ refusal 1 → Is (answer_to reg s) a reg
+  pub no-1 : {a : Answer} → x ≡ false → a ≡ told (Err (no_to 1)) → Is (answer_to reg s) a reg
   unfolding answer_to pick
   no-1 q e =
       let fails : register_whole reg ≡ false = sym one ∙ q in
@@ -101,7 +99,7 @@ module _ (reg s : List ℕ) {x : Bool} (one : x ≡ register_whole reg) where
     first : register_whole reg ≡ true
     first = sym one ∙ q1
 
-    pub no-2 : {a : Answer} → y ≡ false → a ≡ refusal 2 → Is (answer_to reg s) a reg
+    pub no-2 : {a : Answer} → y ≡ false → a ≡ told (Err (no_to 2)) → Is (answer_to reg s) a reg
     unfolding answer_to pick
     no-2 q e =
         let fails : whole s ≡ false = sym two ∙ q in
@@ -111,7 +109,7 @@ module _ (reg s : List ℕ) {x : Bool} (one : x ≡ register_whole reg) where
       second : whole s ≡ true
       second = sym two ∙ q2
 
-      pub no-3 : {a : Answer} → z ≡ false → a ≡ refusal 3 → Is (answer_to reg s) a reg
+      pub no-3 : {a : Answer} → z ≡ false → a ≡ told (Err (no_to 3)) → Is (answer_to reg s) a reg
       unfolding answer_to pick
       no-3 q e =
           let fails : question3 reg s ≡ false = sym three ∙ q in

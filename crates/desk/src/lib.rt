@@ -1,10 +1,11 @@
 // The desk: set-up, the answer to a report on the register, and what C is answered: `desk_c` exports the functions that begin with desk_.
 #![tactic(auto)]
 
-ghost use Rattle.std.specs.Prelude.{◌≡◌, ◌≤◌, true};
+ghost use Rattle.std.specs.Prelude.{◌≡◌, ◌≤◌, true, Ok, Err};
 ghost use Rattle.report.specs.Report.{most_parts, part_count_of};
 ghost use Rattle.report.specs.Remark.{remark_in};
-ghost use Rattle.rules.specs.Judge.{refusal as refusal_of, judge as judged};
+ghost use Rattle.fields.specs.Lists.{pick};
+ghost use Rattle.rules.specs.Judge.{told, no_to, judge as judged};
 ghost use Rattle.rules.specs.Desk.{set_up, question3, answer_to};
 ghost use Rattle.rules.specs.Block.{unit_head};
 ghost use Rattle.rules.specs.Whole.{block_whole};
@@ -14,33 +15,44 @@ ghost use Rattle.desk.specs.Packed.{packed, packed_remark, packed_date};
 use after::Plan;
 use block::BLOCK_SIZE;
 use quantities::Minute;
-use rules::Answer;
+use rules::{Answer, Refusal};
 
-fn refusal(number: u8) -> Answer
-    ensures { result ≡ refusal_of number }
+// The paper's number and values of what is answered: 0 with the sum of an accepted report's warnings, or a refusal's number and part.
+fn told(outcome: Result<u8, Refusal>) -> Answer
+    ensures { result ≡ told outcome }
 {
-    Answer {
-        number,
-        warnings: 0,
-        part: 0,
+    match outcome {
+        Ok(sum) => Answer {
+            number: 0,
+            warnings: sum,
+            part: 0,
+        },
+        Err(refusal) => Answer {
+            number: refusal.number,
+            warnings: 0,
+            part: refusal.part,
+        },
     }
 }
 
-// Questions 4 to 19 on the unit's own block, lent as a part of the register.
-fn judge_block(b: &mut [u8], report: &[u8]) -> Answer
+fn ask(number: u8, yes: bool) -> Result<(), Refusal>
+    ensures { result ≡ pick yes (Ok tt) (Err (no_to number)) }
+{
+    if yes {
+        Ok(())
+    } else {
+        Err(Refusal { number, part: 0 })
+    }
+}
+
+// Questions 4 to 19 on the unit's own block, lent as a part of the register, and the warnings.
+fn judge_block(b: &mut [u8], report: &[u8]) -> Result<u8, Refusal>
     requires whole_block { block_whole (unit_head b.old).unit b.old ≡ true }
     requires few_parts { part_count_of report.now ≤ most_parts }
-    ensures value { result ≡ (judged b.old report.now).answer }
+    ensures value { told result ≡ (judged b.old report.now).answer }
     ensures b_after { b.new ≡ (judged b.old report.now).after }
 {
-    let decision = judge::decide(b, report);
-    if decision.number != 0 {
-        return Answer {
-            number: decision.number,
-            warnings: 0,
-            part: decision.part,
-        };
-    }
+    let decision = judge::decide(b, report)?;
     let cleared = decision.cleared;
     let plan = Plan {
         cleared,
@@ -49,11 +61,7 @@ fn judge_block(b: &mut [u8], report: &[u8]) -> Answer
     };
     after::apply(b, report, plan);
     let warnings = judge::warnings_on(b, report::head_of(report), decision.left);
-    Answer {
-        number: 0,
-        warnings,
-        part: 0,
-    }
+    Ok(warnings)
 }
 
 // Question 3.
@@ -70,24 +78,26 @@ fn is_addressed(register: &[u8], report: &[u8]) -> bool
     }
 }
 
+// The questions in their order: the warnings, or the first "no".
+fn ask_all(register: &mut [u8], report: &[u8]) -> Result<u8, Refusal>
+    ensures value { told result ≡ (answer_to register.old report.now).answer }
+    ensures register_after { register.new ≡ (answer_to register.old report.now).after }
+{
+    ask(1, block::register_whole(register))?;
+    ask(2, report::is_whole(report))?;
+    ask(3, is_addressed(register, report))?;
+    let unit = report::head_of(report).unit as usize;
+    let a = BLOCK_SIZE * (unit - 1);
+    let e = a + BLOCK_SIZE;
+    judge_block(&mut register[a..e], report)
+}
+
 // The answer to a report: questions 1 to 19 and the warnings. A refusal leaves every byte.
 pub fn answer_report(register: &mut [u8], report: &[u8]) -> Answer
     ensures value { result ≡ (answer_to register.old report.now).answer }
     ensures register_after { register.new ≡ (answer_to register.old report.now).after }
 {
-    if !block::register_whole(register) {
-        return refusal(1);
-    }
-    if !report::is_whole(report) {
-        return refusal(2);
-    }
-    if !is_addressed(register, report) {
-        return refusal(3);
-    }
-    let unit = report::head_of(report).unit as usize;
-    let a = BLOCK_SIZE * (unit - 1);
-    let e = a + BLOCK_SIZE;
-    judge_block(&mut register[a..e], report)
+    told(ask_all(register, report))
 }
 
 // For C: 0, 20 or 21.
