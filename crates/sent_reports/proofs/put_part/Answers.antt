@@ -1,0 +1,5 @@
+use Rattle.sent_reports.proofs.Entries.{part-put}
+use Rattle.sent_reports.proofs.put_part.Goals as goal
+
+pub returns : goal.returns
+returns c = rw (← part-put _ _ _ _ _ c.ranges.power.fits) (cc)
