@@ -9,7 +9,7 @@ ghost use Rattle.sent_reports.specs.Sent.{report_sent};
 
 use rules::Answer;
 use sent_reports::{
-    D, Sent, Step, begun_stop, derating, derating_over, event, forced, fresh_register,
+    D, MOST_BYTES, Sent, Step, begun_stop, derating, derating_over, event, forced, fresh_register,
 };
 use std::io;
 use words::InWords;
@@ -23,7 +23,7 @@ fn answer(register: &mut [u8], s: Sent) -> Answer
     ensures value { result ≡ (answer_to register.old (report_sent s)).answer }
     ensures register_after { register.new ≡ (answer_to register.old (report_sent s)).after }
 {
-    let mut buffer = [0u8; 82];
+    let mut buffer = [0u8; MOST_BYTES];
     let report = sent_reports::compose(&mut buffer, s);
     desk::answer_report(register, report)
 }

@@ -1,7 +1,7 @@
 // The edges of the shift log.
 #![tactic(auto)]
 
-use sent_reports::{compose, derating, fresh_register, put_roster_a};
+use sent_reports::{MOST_BYTES, REGISTER_SIZE, compose, derating, fresh_register, put_roster_a};
 use std::io;
 
 fn main(rt: HostRuntime) -> io::Result<()> {
@@ -30,7 +30,7 @@ fn rosters(rt: &impl Print) -> io::Result<()> {
 
 // What is printed of a roster that is lent to set-up.
 fn fault(rt: &impl Print, roster: &[u8]) -> io::Result<()> {
-    let number = setup::set_up(roster, &mut [0u8; 14336]);
+    let number = setup::set_up(roster, &mut [0u8; REGISTER_SIZE]);
     if number == 0 {
         return println!(rt; "no fault");
     }
@@ -116,7 +116,7 @@ fn columns(rt: &impl Print) -> io::Result<()> {
 fn thousands(rt: &impl Print) -> io::Result<()> {
     println!(rt; "\nThe shift log: one report, sent 5,000 times; the last line and the totals")?;
     let mut register = fresh_register();
-    let mut buffer = [0u8; 82];
+    let mut buffer = [0u8; MOST_BYTES];
     let report = compose(&mut buffer, derating(1));
     let mut text = [0u8; 128];
     let mut progress = log_lines::at_start();

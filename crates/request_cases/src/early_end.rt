@@ -1,7 +1,7 @@
 // A2: a derating on unit 1 of roster A, 20,000 kW from 12:00, planned to 16:00, that ended at 14:07.
 use crate::lines::print_line;
 use records::{CHANGE, CREATE, EXECUTED, NEGATIVE_DERATING, PLANNED, STOP, WITHDRAW};
-use sent_reports::{D, Sent, derating_over, event, fresh_register};
+use sent_reports::{D, MOST_BYTES, REGISTER_SIZE, Sent, derating_over, event, fresh_register};
 use std::io;
 
 // Minutes of 2026-03-01.
@@ -77,14 +77,14 @@ fn compose(buffer: &mut [u8], c: Change) -> &mut [u8] {
 
 fn then(rt: &impl Print, register: &mut [u8], words: &str, c: Change) -> io::Result<()> {
     print!(rt; "{words}: ")?;
-    print_line(rt, register, compose(&mut [0u8; 82], c))
+    print_line(rt, register, compose(&mut [0u8; MOST_BYTES], c))
 }
 
 // The register after the derating was planned, and has begun.
-fn running_register() -> [u8; 14336] {
+fn running_register() -> [u8; REGISTER_SIZE] {
     let mut register = fresh_register();
     for c in [planned(NOON - 10, NOON), begun()] {
-        desk::answer_report(&mut register, compose(&mut [0u8; 82], c));
+        desk::answer_report(&mut register, compose(&mut [0u8; MOST_BYTES], c));
     }
     register
 }

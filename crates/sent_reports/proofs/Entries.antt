@@ -1,20 +1,13 @@
--- The puts of a roster entry's and a report's fields as one put. Assumes nothing.
-use Prim.Native.Nat.{ℕ, ◌+◌, ◌-◌, ◌*◌, ◌<◌, ◌≤◌}
-use mathlib.Core.Path.{◌≡◌, refl, sym}
-use mathlib.Core.Bool.{Bool, true, false}
+-- The puts of roster A's fields as one put, and the register that is set up from it. Assumes nothing.
+use Prim.Native.Nat.{ℕ, ◌+◌, ◌*◌}
+use mathlib.Core.Path.{◌≡◌, refl}
+use mathlib.Core.Bool.{true}
 use mathlib.Core.List.{List, [], ◌∷◌, ◌++◌}
-use native.Mathlib.Omega.{arith}
 use lib.Dec.{eqb}
-use lib.ListN.{length, replicate, take}
-use Rattle.std.specs.Prelude.{Option, Some, None}
-use Rattle.std.specs.Int.{w32}
-use mir.ValLaws.{of_z-to_z}
+use lib.ListN.{replicate}
 use Rattle.fields.specs.Fields.{bytes_of}
-use Rattle.fields.specs.Lists.{pick, part, put}
-use Rattle.fields.proofs.Slices.{put-append, part-put as put_read}
-use Rattle.report.specs.Report.{report_mark, part_mark, text_mark, text_after}
-use Rattle.report.specs.Encoded.{encode_head, encode_parts, encode_report}
-use Rattle.rules.specs.Codes.{is_levelled, W1, Z1, P, create, generation, planned}
+use Rattle.fields.specs.Lists.{pick, put}
+use Rattle.rules.specs.Codes.{W1, Z1, P}
 use Rattle.rules.specs.declared.PowerRange.{PowerRange}
 use Rattle.rules.specs.declared.RosterEntry.{RosterEntry}
 use Rattle.rules.specs.Roster.{entry_mark}
@@ -24,21 +17,12 @@ use Rattle.rules.specs.Block.{block_size}
 use Rattle.rules.specs.Desk.{set_up, units, new_register}
 use Rattle.rules.proofs.Computed.{computed}
 use Rattle.rules.proofs.Worked.{good}
-use Rattle.sent_reports.specs.declared.Sent.{Sent}
-use Rattle.sent_reports.specs.declared.Step.{Step}
-use Rattle.sent_reports.specs.Sent.{length_sent, parts_sent, step_parts, part_sent, levels_sent, head_sent, report_sent}
-
--- what is put where the bytes put before it end
-put_on : (s : List ℕ) (at : ℕ) (vs ws : List ℕ) {t : List ℕ} → t ≡ put s at vs → put t (at + length vs) ws ≡ put s at (vs ++ ws)
-put_on s at vs ws e = rw e (sym (put-append vs ws s at))
+use Rattle.sent_reports.proofs.Puts.{put_on}
 
 pub range-put : (s : List ℕ) (at : ℕ) (r : PowerRange)
     → put (put s at (bytes_of 4 r.max.0)) (at + 4) (bytes_of 4 r.min.0) ≡ put s at (bytes_of 4 r.max.0 ++ bytes_of 4 r.min.0)
 unfolding bytes_of
 range-put s at r = put_on s at (bytes_of 4 r.max.0) (bytes_of 4 r.min.0) refl
-
-range_bytes : PowerRange → List ℕ
-range_bytes r = bytes_of 4 r.max.0 ++ bytes_of 4 r.min.0
 
 pub entry-put : (s : List ℕ) (at : ℕ) (e : RosterEntry)
     → put (put (put (put (put (put s at (bytes_of 2 entry_mark)) (at + 2) (bytes_of 2 e.owner)) (at + 4) (e.kind ∷ e.row.state ∷ e.row.qualification ∷ 0 ∷ []))
@@ -60,68 +44,6 @@ roster-put s = put_on s 0 (entry_bytes (entry_for 7 W1 P (powers_of 200000 80000
 pub roster-alone : put (replicate 56 0) 0 roster_a ≡ roster_a
 unfolding put bytes_of entry_bytes roster_a
 roster-alone = refl
-
-pub head-put : (s : List ℕ) (x : Sent)
-    → put (put (put (put (put (put (put (put (put (put (put s 0 (bytes_of 2 report_mark)) 2 (bytes_of 2 x.unit)) 4 (bytes_of 2 x.owner))
-    6 (x.record_type ∷ create ∷ generation ∷ x.start_mark ∷ planned ∷ x.qualification ∷ [])) 12 (bytes_of 2 1)) 14 (bytes_of 2 (parts_sent x)))
-    16 (replicate 16 x.place)) 32 (bytes_of 4 x.stamp)) 36 (bytes_of 4 x.start)) 40 (bytes_of 4 x.end)) 44 (bytes_of 4 0)
-    ≡ put s 0 (encode_head (head_sent x))
-unfolding bytes_of encode_head
-head-put s x =
-    put_on s 0 _ (bytes_of 4 0)
-    (put_on s 0 _ (bytes_of 4 x.end)
-    (put_on s 0 _ (bytes_of 4 x.start)
-    (put_on s 0 _ (bytes_of 4 x.stamp)
-    (put_on s 0 _ (replicate 16 x.place)
-    (put_on s 0 _ (bytes_of 2 (parts_sent x))
-    (put_on s 0 _ (bytes_of 2 1)
-    (put_on s 0 _ (x.record_type ∷ create ∷ generation ∷ x.start_mark ∷ planned ∷ x.qualification ∷ [])
-    (put_on s 0 _ (bytes_of 2 x.owner)
-    (put_on s 0 (bytes_of 2 report_mark) (bytes_of 2 x.unit) refl)))))))))
-
-pub part-put : (s : List ℕ) (at start end power : ℕ) → power < 4294967296
-    → put (put (put (put (put s at (bytes_of 2 part_mark)) (at + 2) (bytes_of 2 0)) (at + 4) (bytes_of 4 start)) (at + 8) (bytes_of 4 end))
-    (at + 12) (bytes_of 4 power)
-    ≡ put s at (encode_parts (part_sent start end power ∷ []))
-unfolding bytes_of encode_parts
-part-put s at start end power fits =
-    rw (of_z-to_z w32 power (record { fits = fits }))
-    (put_on s at _ (bytes_of 4 power)
-    (put_on s at _ (bytes_of 4 end)
-    (put_on s at _ (bytes_of 4 start) (put_on s at (bytes_of 2 part_mark) (bytes_of 2 0) refl))))
-
-pub levels-put : (s : List ℕ) (x : Sent) (step : Step)
-    → put (put s 48 (encode_parts (part_sent x.start step.at x.power ∷ []))) 64 (encode_parts (part_sent step.at x.end step.power ∷ []))
-    ≡ put s 48 (encode_parts (levels_sent x (Some step)))
-unfolding bytes_of encode_parts
-levels-put s x step = put_on s 48 (encode_parts (part_sent x.start step.at x.power ∷ [])) _ refl
-
-module _ (s : List ℕ) (x : Sent) where
-  pub whole-put : (b : Bool) (step : Option Step)
-      → put (put (put s 0 (encode_head (head_sent x))) 48 (encode_parts (pick b (levels_sent x step) [])))
-      (text_after (pick b (step_parts step) 0) - 2) (bytes_of 2 text_mark)
-      ≡ put s 0 (encode_report (head_sent x) (pick b (levels_sent x step) []) [])
-  unfolding pick bytes_of encode_head encode_parts encode_report
-  whole-put true None = put_on s 0 _ _ (put_on s 0 (encode_head (head_sent x)) _ refl)
-  whole-put true (Some step) = put_on s 0 _ _ (put_on s 0 (encode_head (head_sent x)) _ refl)
-  whole-put false None = put_on s 0 _ _ (put_on s 0 (encode_head (head_sent x)) [] refl)
-  whole-put false (Some step) = put_on s 0 _ _ (put_on s 0 (encode_head (head_sent x)) [] refl)
-
-lengths : (x : Sent) (b : Bool) (step : Option Step)
-    → (length (encode_report (head_sent x) (pick b (levels_sent x step) []) []) ≡ text_after (pick b (step_parts step) 0))
-    × (text_after (pick b (step_parts step) 0) ≤ 82)
-unfolding pick bytes_of encode_head encode_parts encode_report
-lengths x true None = (refl, omega arith)
-lengths x true (Some step) = (refl, omega arith)
-lengths x false None = (refl, omega arith)
-lengths x false (Some step) = (refl, omega arith)
-
--- where there is room, what was put is the report
-pub report-read : (s : List ℕ) (x : Sent) → 82 ≤ length s → take (length_sent x) (put s 0 (report_sent x)) ≡ report_sent x
-unfolding report_sent part
-report-read s x room =
-    let ends = lengths x (is_levelled x.record_type) x.step in
-    rw (← ends.0) (put_read s 0 (report_sent x) (rw ends.0 (omega arith)))
 
 -- the array has room for the blocks of two units
 two_blocks : eqb 14336 (block_size * units roster_a) ≡ true

@@ -20,6 +20,11 @@ use rules::{PowerRange, Powers, RosterEntry, Row};
 // "D is 13,760,640, which is 2026-03-01 00:00."
 pub const D: u32 = 13760640;
 
+// The most bytes of a report that is sent here, and those of roster A's register: two blocks.
+pub const MOST_BYTES: usize = 82;
+
+pub const REGISTER_SIZE: usize = 14336;
+
 // Where a report's power changes, and the power from then on.
 #[derive(Clone, Copy)]
 pub struct Step {
@@ -200,7 +205,7 @@ fn put_report(report: &mut [u8], s: Sent)
 // Puts the report's bytes at the start of the buffer, and lends them, as far as there is room.
 pub fn compose(buffer: &mut [u8], s: Sent) -> &mut [u8]
     ensures value { result.now ≡ take (length_sent s) (put buffer.old 0 (report_sent s)) }
-    ensures whole { 82 ≤ length buffer.old → result.now ≡ report_sent s }
+    ensures whole { MOST_BYTES ≤ length buffer.old → result.now ≡ report_sent s }
 {
     put_report(buffer, s);
     let end = length_of(s).min(buffer.len());
@@ -275,10 +280,10 @@ pub fn fresh(register: &mut [u8])
 }
 
 // The register of roster A, as it is before each case.
-pub fn fresh_register() -> [u8; 14336]
+pub fn fresh_register() -> [u8; REGISTER_SIZE]
     ensures { result ≡ new_register roster_a }
 {
-    let mut register = [0u8; 14336];
+    let mut register = [0u8; REGISTER_SIZE];
     fresh(&mut register);
     register
 }

@@ -1,6 +1,6 @@
 use Rattle.std.proofs.Common.{◌≡◌, arith}
 use Rattle.sent_reports.specs.Sent.{length_sent}
-use Rattle.sent_reports.proofs.Entries.{report-read}
+use Rattle.sent_reports.proofs.Reports.{report-read}
 use Rattle.sent_reports.proofs.compose.Goals as goal
 
 pub returns-clause-whole : goal.returns-clause-whole

@@ -1,4 +1,4 @@
-use Rattle.sent_reports.proofs.Entries.{head-put}
+use Rattle.sent_reports.proofs.Reports.{head-put}
 use Rattle.sent_reports.proofs.put_head.Goals as goal
 
 pub returns : goal.returns

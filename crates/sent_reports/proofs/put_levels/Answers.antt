@@ -1,4 +1,4 @@
-use Rattle.sent_reports.proofs.Entries.{levels-put}
+use Rattle.sent_reports.proofs.Reports.{levels-put}
 use Rattle.sent_reports.proofs.put_levels.Goals as goal
 
 pub returns-in-Some : goal.returns-in-Some

@@ -1,4 +1,4 @@
-use Rattle.sent_reports.proofs.Entries.{part-put}
+use Rattle.sent_reports.proofs.Reports.{part-put}
 use Rattle.sent_reports.proofs.put_part.Goals as goal
 
 pub returns : goal.returns

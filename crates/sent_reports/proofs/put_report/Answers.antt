@@ -1,5 +1,5 @@
 use Rattle.sent_reports.specs.Sent.{report_sent}
-use Rattle.sent_reports.proofs.Entries.{whole-put}
+use Rattle.sent_reports.proofs.Reports.{whole-put}
 use Rattle.sent_reports.proofs.put_report.Goals as goal
 
 pub returns : goal.returns
