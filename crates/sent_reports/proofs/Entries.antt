@@ -19,37 +19,37 @@ use Rattle.rules.proofs.Computed.{computed}
 use Rattle.rules.proofs.Worked.{good}
 use Rattle.sent_reports.proofs.Puts.{put_on}
 
-pub range-put : (s : List ℕ) (at : ℕ) (r : PowerRange)
+pub range_put : (s : List ℕ) (at : ℕ) (r : PowerRange)
     → put (put s at (bytes_of 4 r.max.0)) (at + 4) (bytes_of 4 r.min.0) ≡ put s at (bytes_of 4 r.max.0 ++ bytes_of 4 r.min.0)
 unfolding bytes_of
-range-put s at r = put_on s at (bytes_of 4 r.max.0) (bytes_of 4 r.min.0) refl
+range_put s at r = put_on s at (bytes_of 4 r.max.0) (bytes_of 4 r.min.0) refl
 
-pub entry-put : (s : List ℕ) (at : ℕ) (e : RosterEntry)
+pub entry_put : (s : List ℕ) (at : ℕ) (e : RosterEntry)
     → put (put (put (put (put (put s at (bytes_of 2 entry_mark)) (at + 2) (bytes_of 2 e.owner)) (at + 4) (e.kind ∷ e.row.state ∷ e.row.qualification ∷ 0 ∷ []))
     (at + 8) (bytes_of 4 e.row.since.0)) (at + 12) (bytes_of 4 e.powers.generation.max.0 ++ bytes_of 4 e.powers.generation.min.0))
     (at + 20) (bytes_of 4 e.powers.consumption.max.0 ++ bytes_of 4 e.powers.consumption.min.0)
     ≡ put s at (entry_bytes e)
 unfolding bytes_of entry_bytes
-entry-put s at e =
+entry_put s at e =
     put_on s at _ _
     (put_on s at _ _
     (put_on s at _ _ (put_on s at _ (e.kind ∷ e.row.state ∷ e.row.qualification ∷ 0 ∷ []) (put_on s at (bytes_of 2 entry_mark) (bytes_of 2 e.owner) refl))))
 
-pub roster-put : (s : List ℕ)
+pub roster_put : (s : List ℕ)
     → put (put s 0 (entry_bytes (entry_for 7 W1 P (powers_of 200000 80000 0 0)))) 28 (entry_bytes (entry_for 9 Z1 0 (powers_of 50000 0 0 0)))
     ≡ put s 0 roster_a
 unfolding bytes_of entry_bytes roster_a
-roster-put s = put_on s 0 (entry_bytes (entry_for 7 W1 P (powers_of 200000 80000 0 0))) _ refl
+roster_put s = put_on s 0 (entry_bytes (entry_for 7 W1 P (powers_of 200000 80000 0 0))) _ refl
 
-pub roster-alone : put (replicate 56 0) 0 roster_a ≡ roster_a
+pub roster_alone : put (replicate 56 0) 0 roster_a ≡ roster_a
 unfolding put bytes_of entry_bytes roster_a
-roster-alone = refl
+roster_alone = refl
 
 -- the array has room for the blocks of two units
 two_blocks : eqb 14336 (block_size * units roster_a) ≡ true
 unfolding computed roster_a
 two_blocks = refl
 
-pub fresh-after : (set_up roster_a (replicate 14336 0)).after ≡ new_register roster_a
+pub fresh_after : (set_up roster_a (replicate 14336 0)).after ≡ new_register roster_a
 unfolding set_up pick
-fresh-after = rw (good, two_blocks) refl
+fresh_after = rw (good, two_blocks) refl

@@ -162,6 +162,7 @@ fn put_head(report: &mut [u8], s: Sent)
     fields::put_u32(report, 44, 0);
 }
 
+#[tactic(auto, using(crate::proofs::Reports::part_put))]
 fn put_part(report: &mut [u8], at: usize, start: u32, end: u32, power: u32)
     requires { at ≤ 64 }
     ensures { report.new ≡ put report.old at (encode_parts (part_sent start end power ∷ [])) }
@@ -173,6 +174,7 @@ fn put_part(report: &mut [u8], at: usize, start: u32, end: u32, power: u32)
     fields::put_u32(report, at + 12, power);
 }
 
+#[tactic(auto, using(crate::proofs::Reports::levels_put))]
 fn put_levels(report: &mut [u8], s: Sent)
     ensures { report.new ≡ put report.old 48 (encode_parts (levels_sent s s.step)) }
 {
@@ -194,6 +196,7 @@ fn put_parts(report: &mut [u8], s: Sent)
     }
 }
 
+#[tactic(auto, using(crate::proofs::Reports::whole_put), unfolding(crate::specs::Sent::report_sent))]
 fn put_report(report: &mut [u8], s: Sent)
     ensures { report.new ≡ put report.old 0 (report_sent s) }
 {
@@ -203,6 +206,7 @@ fn put_report(report: &mut [u8], s: Sent)
 }
 
 // Puts the report's bytes at the start of the buffer, and lends them, as far as there is room.
+#[tactic(auto, using(crate::proofs::Reports::report_read))]
 pub fn compose(buffer: &mut [u8], s: Sent) -> &mut [u8]
     ensures value { result.now ≡ take (length_sent s) (put buffer.old 0 (report_sent s)) }
     ensures whole { MOST_BYTES ≤ length buffer.old → result.now ≡ report_sent s }
@@ -241,6 +245,7 @@ fn entry(owner: u16, kind: u8, state: u8, max: u32, min: u32) -> RosterEntry
     }
 }
 
+#[tactic(auto, using(crate::proofs::Entries::entry_put))]
 fn put_entry(roster: &mut [u8], at: usize, e: RosterEntry)
     requires { at ≤ 28 }
     ensures { roster.new ≡ put roster.old at (entry_bytes e) }
@@ -254,6 +259,7 @@ fn put_entry(roster: &mut [u8], at: usize, e: RosterEntry)
     put_range(roster, at + 20, e.powers.consumption);
 }
 
+#[tactic(auto, using(crate::proofs::Entries::range_put))]
 fn put_range(roster: &mut [u8], at: usize, r: PowerRange)
     requires { at ≤ 48 }
     ensures { roster.new ≡ put roster.old at (bytes_of 4 r.max.0 ++ bytes_of 4 r.min.0) }
@@ -263,6 +269,7 @@ fn put_range(roster: &mut [u8], at: usize, r: PowerRange)
 }
 
 // "unit 1, owner 7, W1, state 5, since D, 200,000 and 80,000; unit 2, owner 9, Z1, since D, 50,000 and 0"
+#[tactic(auto, using(crate::proofs::Entries::roster_put))]
 pub fn put_roster_a(roster: &mut [u8])
     ensures { roster.new ≡ put roster.old 0 roster_a }
 {
@@ -271,6 +278,7 @@ pub fn put_roster_a(roster: &mut [u8])
 }
 
 // Sets the register up from roster A.
+#[tactic(auto, using(crate::proofs::Entries::roster_alone))]
 pub fn fresh(register: &mut [u8])
     ensures { register.new ≡ (set_up roster_a register.old).after }
 {
@@ -280,6 +288,7 @@ pub fn fresh(register: &mut [u8])
 }
 
 // The register of roster A, as it is before each case.
+#[tactic(auto, using(crate::proofs::Entries::fresh_after))]
 pub fn fresh_register() -> [u8; REGISTER_SIZE]
     ensures { result ≡ new_register roster_a }
 {
