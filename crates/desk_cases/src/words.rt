@@ -1,28 +1,20 @@
-// What the program prints.
+// What the program prints of an answer.
 use rules::Answer;
-use std::io;
+use std::fmt;
 
-pub(crate) fn say(rt: &impl Print, words: &[u8]) -> io::Result<()> {
-    rt.write_all(words)
-}
+// An answer in words.
+#[derive(Clone, Copy)]
+pub(crate) struct InWords(pub(crate) Answer);
 
-fn say_number(rt: &impl Print, n: u16) -> io::Result<()> {
-    rt.print(n)
-}
-
-fn say_refusal(rt: &impl Print, a: Answer) -> io::Result<()> {
-    say(rt, b": refused with ")?;
-    say_number(rt, a.number as u16)
-}
-
-pub(crate) fn say_answer(rt: &impl Print, a: Answer) -> io::Result<()> {
-    if a.number != 0 {
-        say_refusal(rt, a)?;
-    } else if a.warnings != 0 {
-        say(rt, b": accepted with warning ")?;
-        say_number(rt, a.warnings as u16)?;
-    } else {
-        say(rt, b": accepted")?;
+impl fmt::Display for InWords {
+    fn fmt<W: fmt::Write>(&self, f: &mut fmt::Formatter<W>) -> fmt::Result {
+        let a = self.0;
+        if a.number != 0 {
+            write!(f, "refused with {}", a.number)
+        } else if a.warnings != 0 {
+            write!(f, "accepted with warning {}", a.warnings)
+        } else {
+            f.write_str("accepted")
+        }
     }
-    say(rt, b"\n")
 }

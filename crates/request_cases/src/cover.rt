@@ -1,11 +1,11 @@
 // A1: which part breaks cover. Deratings in parts of a quarter of an hour from D+60 on, each on fresh roster A.
-ghost use Rattle.std.specs.Prelude.{◌≡◌, ◌+◌, ◌*◌, ◌≤◌, length};
+ghost use Rattle.std.specs.Prelude.{◌≡◌, ◌+◌, ◌*◌};
 
-use crate::lines::{line, say, say_number};
+use crate::lines::print_line;
 use records::{STOP, WITHDRAW};
 use report::{PART_SIZE, PARTS_START};
-use sent_reports::{D, derating_over, fresh};
-use std::io;
+use sent_reports::{D, derating_over, fresh_register};
+use std::{fmt, io};
 
 // Where a part has its start and its end.
 const START: usize = 4;
@@ -19,17 +19,20 @@ struct Place {
     count: u16,
 }
 
-pub(crate) fn cases(rt: &impl Print, register: &mut [u8]) -> io::Result<()> {
-    say(
-        rt,
-        b"Which part breaks cover: parts of a quarter of an hour from D+60 on\n",
-    )?;
-    altered_at(rt, register, 57, 90)?;
-    altered_at(rt, register, 1, 100)?;
-    altered_at(rt, register, 100, 100)?;
-    told_elsewhere(rt, register)?;
-    other_periods(rt, register)?;
-    no_list(rt, register)
+impl fmt::Display for Place {
+    fn fmt<W: fmt::Write>(&self, f: &mut fmt::Formatter<W>) -> fmt::Result {
+        write!(f, "part {} of {}", self.number, self.count)
+    }
+}
+
+pub(crate) fn cases(rt: &impl Print) -> io::Result<()> {
+    println!(rt; "Which part breaks cover: parts of a quarter of an hour from D+60 on")?;
+    for (number, count) in [(57, 90), (1, 100), (100, 100)] {
+        altered_at(rt, Place { number, count })?;
+    }
+    told_elsewhere(rt)?;
+    other_periods(rt)?;
+    no_list(rt)
 }
 
 // Where so many parts end.
@@ -54,192 +57,103 @@ fn put_part(report: &mut [u8], number: u16) {
     fields::put_u32(report, at + 12, 20000);
 }
 
-fn put_parts(report: &mut [u8], count: u16) {
-    for i in 0..count {
-        put_part(report, i + 1);
-    }
-}
-
-// A derating of so many quarter hours, in as many parts; how many bytes it has.
-fn compose(report: &mut [u8], count: u16) -> usize {
+// A derating of so many quarter hours, in as many parts, as far as there is room.
+fn compose(buffer: &mut [u8], count: u16) -> &mut [u8] {
     let s = derating_over(1, D + 10, end_of(0), end_of(count));
-    sent_reports::compose(report, s);
-    fields::put_u16(report, 14, count);
-    put_parts(report, count);
+    sent_reports::compose(buffer, s);
+    fields::put_u16(buffer, 14, count);
+    for number in 1..=count {
+        put_part(buffer, number);
+    }
     let end = report::text_after(count);
-    fields::put_u16(report, end - 2, 0x5854);
-    end
+    fields::put_u16(buffer, end - 2, 0x5854);
+    let end = end.min(buffer.len());
+    &mut buffer[..end]
 }
 
-fn judged(
-    rt: &impl Print,
-    register: &mut [u8],
-    report: &[u8],
-    end: usize,
-    words: &[u8],
-) -> io::Result<()> {
-    if end <= report.len() {
-        fresh(register);
-        line(rt, register, report, end, words)?;
+// Such a derating, but one number in it is another.
+fn altered(rt: &impl Print, count: u16, at: usize, value: u32) -> io::Result<()> {
+    let mut buffer = [0u8; 1850];
+    let report = compose(&mut buffer, count);
+    fields::put_u32(report, at, value);
+    print_line(rt, &mut fresh_register(), report)
+}
+
+// Lists in which one number of a part is another.
+fn altered_parts(rt: &impl Print, p: Place, all: &[(&str, usize, u32)]) -> io::Result<()> {
+    for (words, at, value) in all {
+        print!(rt; "{p} {words}: ")?;
+        altered(rt, p.count, *at, *value)?;
     }
     Ok(())
 }
 
-// One number of a list is another.
-fn altered(
-    rt: &impl Print,
-    register: &mut [u8],
-    count: u16,
-    at: usize,
-    value: u32,
-    words: &[u8],
-) -> io::Result<()> {
-    let mut report = [0u8; 1850];
-    let end = compose(&mut report, count);
-    fields::put_u32(&mut report, at, value);
-    judged(rt, register, &report, end, words)
-}
-
-fn say_place(rt: &impl Print, p: Place) -> io::Result<()> {
-    say(rt, b"part ")?;
-    say_number(rt, p.number)?;
-    say(rt, b" of ")?;
-    say_number(rt, p.count)
-}
-
-// A list with one part that starts as said.
-fn starts(
-    rt: &impl Print,
-    register: &mut [u8],
-    p: Place,
-    time: u32,
-    words: &[u8],
-) -> io::Result<()> {
-    say_place(rt, p)?;
-    altered(
-        rt,
-        register,
-        p.count,
-        offset_of(p.number) + START,
-        time,
-        words,
-    )
-}
-
-// A list with one part that ends as said.
-fn ends(rt: &impl Print, register: &mut [u8], p: Place, time: u32, words: &[u8]) -> io::Result<()> {
-    say_place(rt, p)?;
-    altered(
-        rt,
-        register,
-        p.count,
-        offset_of(p.number) + END,
-        time,
-        words,
-    )
-}
-
 // A part as it should be, and each way in which it breaks cover itself.
-fn altered_at(rt: &impl Print, register: &mut [u8], number: u16, count: u16) -> io::Result<()> {
-    let p = Place { number, count };
-    starts_elsewhere(rt, register, p)?;
-    ends_elsewhere(rt, register, p)
-}
-
-fn starts_elsewhere(rt: &impl Print, register: &mut [u8], p: Place) -> io::Result<()> {
+fn altered_at(rt: &impl Print, p: Place) -> io::Result<()> {
+    let start = offset_of(p.number) + START;
+    let end = offset_of(p.number) + END;
     let due = end_of(p.number) - 15;
-    starts(rt, register, p, due, b" starts where it is due: ")?;
-    starts(rt, register, p, due + 1, b" starts a minute late: ")?;
-    starts(rt, register, p, due - 1, b" starts a minute early: ")
-}
-
-fn ends_elsewhere(rt: &impl Print, register: &mut [u8], p: Place) -> io::Result<()> {
-    let start = end_of(p.number) - 15;
     let late = end_of(p.count) + 15;
-    ends(rt, register, p, start, b" ends where it starts: ")?;
-    ends(rt, register, p, start - 15, b" ends before it starts: ")?;
-    ends(rt, register, p, late, b" ends after the period: ")
+    let all = [
+        ("starts where it is due", start, due),
+        ("starts a minute late", start, due + 1),
+        ("starts a minute early", start, due - 1),
+        ("ends where it starts", end, due),
+        ("ends before it starts", end, due - 15),
+        ("ends after the period", end, late),
+    ];
+    altered_parts(rt, p, &all)
 }
 
 // An end within the period: the next part, or question 7, says so.
-fn told_elsewhere(rt: &impl Print, register: &mut [u8]) -> io::Result<()> {
+fn told_elsewhere(rt: &impl Print) -> io::Result<()> {
     let p = Place {
         number: 57,
         count: 90,
     };
-    let due = end_of(57);
-    ends(
-        rt,
-        register,
-        p,
-        due + 15,
-        b" ends with the next one, which then overlaps it: ",
-    )?;
-    ends(
-        rt,
-        register,
-        p,
-        due + 1,
-        b" ends a minute late, off the quarter hour: ",
-    )
+    let end = offset_of(p.number) + END;
+    let due = end_of(p.number);
+    let all = [
+        (
+            "ends with the next one, which then overlaps it",
+            end,
+            due + 15,
+        ),
+        ("ends a minute late, off the quarter hour", end, due + 1),
+    ];
+    altered_parts(rt, p, &all)
 }
 
 // The report's period ends elsewhere.
-fn over(
-    rt: &impl Print,
-    register: &mut [u8],
-    count: u16,
-    period_end: u32,
-    words: &[u8],
-) -> io::Result<()> {
-    altered(rt, register, count, 40, period_end, words)
-}
-
-fn other_periods(rt: &impl Print, register: &mut [u8]) -> io::Result<()> {
+fn other_periods(rt: &impl Print) -> io::Result<()> {
     let late = end_of(101);
-    over(
-        rt,
-        register,
-        1,
-        late,
-        b"one part, and the period is longer: ",
-    )?;
-    over(
-        rt,
-        register,
-        100,
-        late,
-        b"a hundred parts, and the period is longer: ",
-    )?;
-    over(
-        rt,
-        register,
-        90,
-        end_of(88),
-        b"ninety parts, and the period ends with the 88th: ",
-    )?;
-    over(rt, register, 0, late, b"a derating without parts: ")
+    let all = [
+        ("one part, and the period is longer", 1, late),
+        ("a hundred parts, and the period is longer", 100, late),
+        (
+            "ninety parts, and the period ends with the 88th",
+            90,
+            end_of(88),
+        ),
+        ("a derating without parts", 0, late),
+    ];
+    for (words, count, period_end) in all {
+        print!(rt; "{words}: ")?;
+        altered(rt, count, 40, period_end)?;
+    }
+    Ok(())
 }
 
 // Parts where none may be.
-fn no_list(rt: &impl Print, register: &mut [u8]) -> io::Result<()> {
-    let mut report = [0u8; 1850];
-    let end = compose(&mut report, 90);
-    fields::put_u8(&mut report, 7, WITHDRAW);
-    judged(
-        rt,
-        register,
-        &report,
-        end,
-        b"a withdrawal with ninety parts: ",
-    )?;
-    stop_with_parts(rt, register)
-}
-
-fn stop_with_parts(rt: &impl Print, register: &mut [u8]) -> io::Result<()> {
-    let mut report = [0u8; 1850];
-    let end = compose(&mut report, 90);
-    fields::put_u8(&mut report, 6, STOP);
-    fields::put_u8(&mut report, 11, 1);
-    judged(rt, register, &report, end, b"a stop with ninety parts: ")
+fn no_list(rt: &impl Print) -> io::Result<()> {
+    let mut buffer = [0u8; 1850];
+    let report = compose(&mut buffer, 90);
+    fields::put_u8(report, 7, WITHDRAW);
+    print!(rt; "a withdrawal with ninety parts: ")?;
+    print_line(rt, &mut fresh_register(), report)?;
+    let report = compose(&mut buffer, 90);
+    fields::put_u8(report, 6, STOP);
+    fields::put_u8(report, 11, 1);
+    print!(rt; "a stop with ninety parts: ")?;
+    print_line(rt, &mut fresh_register(), report)
 }

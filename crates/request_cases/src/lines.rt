@@ -1,28 +1,10 @@
-// What the program prints.
-ghost use Rattle.std.specs.Prelude.{◌≤◌, length};
-
+// What the program prints of a report.
 use std::io;
 
-pub(crate) fn say(rt: &impl Print, words: &[u8]) -> io::Result<()> {
-    rt.write_all(words)
-}
-
-pub(crate) fn say_number(rt: &impl Print, n: u16) -> io::Result<()> {
-    rt.print(n)
-}
-
-// Words, and the line of the report's first `size` bytes as the first of a log.
-pub(crate) fn line(
-    rt: &impl Print,
-    register: &mut [u8],
-    report: &[u8],
-    size: usize,
-    words: &[u8],
-) -> io::Result<()>
-    requires { size ≤ length report.now }
-{
+// The report's line as the first of a log. `log_cases` has the same three calls, with words between them: a crate for them would be
+// longer than they are.
+pub(crate) fn print_line(rt: &impl Print, register: &mut [u8], report: &[u8]) -> io::Result<()> {
     let mut text = [0u8; 128];
-    say(rt, words)?;
-    let logged = log_lines::log_report(register, &report[..size], log_lines::at_start(), &mut text);
-    say(rt, &text[..logged.length])
+    let logged = log_lines::log_report(register, report, log_lines::at_start(), &mut text);
+    rt.write_all(&text[..logged.length])
 }

@@ -8,11 +8,7 @@ mod lines;
 use std::io;
 
 fn main(rt: HostRuntime) -> io::Result<()> {
-    let mut register = [0u8; 14336];
-    lines::say(
-        &rt,
-        b"After each colon the log's line: no unit answer warn part stamp\n\n",
-    )?;
-    cover::cases(&rt, &mut register)?;
-    early_end::cases(&rt, &mut register)
+    println!(rt; "After each colon the log's line: no unit answer warn part stamp\n")?;
+    cover::cases(&rt)?;
+    early_end::cases(&rt)
 }

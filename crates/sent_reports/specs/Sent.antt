@@ -1,12 +1,16 @@
 -- Paper 01, "Reports on fresh roster A": what the programs send.
-use Rattle.std.specs.Prelude.{ℕ, ◌+◌, List, [], ◌∷◌, ◌++◌, eqb}
-use Rattle.fields.specs.Fields.{bytes_of}
+use Rattle.std.specs.Prelude.{ℕ, ◌+◌, List, [], ◌∷◌, Option, Some, None, replicate}
+use Rattle.std.specs.Int.{w32}
+use Rattle.std.proofs.Common.{to_z}
 use Rattle.fields.specs.Lists.{pick}
 use Rattle.rules.specs.Samples.{D}
-use Rattle.rules.specs.Codes.{stop, positive_derating, forced_work, event, is_levelled, planned, executed}
-use Rattle.rules.specs.Roster.{entry_mark}
+use Rattle.rules.specs.Codes.{stop, positive_derating, forced_work, event, is_levelled, planned, executed, create, generation}
+use Rattle.report.specs.declared.Head.{Head}
+use Rattle.report.specs.declared.Part.{Part}
 use Rattle.report.specs.Report.{text_after}
+use Rattle.report.specs.Encoded.{encode_report}
 use Rattle.sent_reports.specs.declared.Sent.{Sent}
+use Rattle.sent_reports.specs.declared.Step.{Step}
 
 -- on unit 1, by owner 7, without a step
 abbrev pub sent_as : ℕ → ℕ → ℕ → ℕ → ℕ → ℕ → ℕ → ℕ → Sent
@@ -21,8 +25,7 @@ sent_as type mark qualification place stamp start end power = record {
   start = start;
   end = end;
   power = power;
-  step_at = 0;
-  step_power = 0;
+  step = None;
 }
 
 -- "20,000 in one part D+60 to D+120", stamp D+10
@@ -41,13 +44,46 @@ stop_sent place qualification start = sent_as stop executed qualification place 
 abbrev pub event_sent : ℕ → Sent
 event_sent code = sent_as event executed code 0 (D + 10) (D + 10) (D + 10) 20000
 
+-- a levelled report has one part, or two where the power changes at a step
+abbrev pub step_parts : Option Step → ℕ
+step_parts None = 1
+step_parts (Some step) = 2
+
 abbrev pub parts_sent : Sent → ℕ
-parts_sent s = pick (is_levelled s.record_type) (pick (eqb s.step_at 0) 1 2) 0
+parts_sent s = pick (is_levelled s.record_type) (step_parts s.step) 0
 
 abbrev pub length_sent : Sent → ℕ
 length_sent s = text_after (parts_sent s)
 
--- a roster entry as far as its powers, in this state since D
-unfoldable pub entry_start : ℕ → ℕ → ℕ → List ℕ
-entry_start owner kind state =
-    bytes_of 2 entry_mark ++ bytes_of 2 owner ++ (kind ∷ state ∷ 0 ∷ 0 ∷ []) ++ bytes_of 4 D
+abbrev pub part_sent : ℕ → ℕ → ℕ → Part
+part_sent start end power = record {
+  period = record { start = record { 0 = start }; end = record { 0 = end } };
+  power = record { 0 = to_z w32 power };
+}
+
+-- its parts, if it is levelled
+abbrev pub levels_sent : Sent → Option Step → List Part
+levels_sent s None = part_sent s.start s.end s.power ∷ []
+levels_sent s (Some step) = part_sent s.start step.at s.power ∷ part_sent step.at s.end step.power ∷ []
+
+-- a creation, direction 1, planned end, ordinal 1, the identifier's bytes all the place, without text
+abbrev pub head_sent : Sent → Head
+head_sent s = record {
+  unit = s.unit;
+  owner = s.owner;
+  record_type = s.record_type;
+  operation = create;
+  direction = generation;
+  start_mark = s.start_mark;
+  end_mark = planned;
+  qualification = s.qualification;
+  ordinal = 1;
+  part_count = parts_sent s;
+  identifier = replicate 16 s.place;
+  stamp = record { 0 = s.stamp };
+  period = record { start = record { 0 = s.start }; end = record { 0 = s.end } };
+  text_length = 0;
+}
+
+unfoldable pub report_sent : Sent → List ℕ
+report_sent s = encode_report (head_sent s) (pick (is_levelled s.record_type) (levels_sent s s.step) []) []

@@ -1,20 +1,36 @@
 // Roster A and the reports that paper 01 sends, as bytes, and a register fresh from roster A.
 #![tactic(auto)]
 
-ghost use Rattle.std.specs.Prelude.{◌≡◌, ◌≤◌};
-ghost use Rattle.fields.specs.Lists.{put};
-ghost use Rattle.rules.specs.Block.{powers_bytes};
+ghost use Rattle.std.specs.Prelude.{◌≡◌, ◌+◌, ◌≤◌, [], ◌∷◌, ◌++◌, length, take};
+ghost use Rattle.fields.specs.Fields.{bytes_of};
+ghost use Rattle.fields.specs.Lists.{pick, put};
+ghost use Rattle.report.specs.Encoded.{encode_head, encode_parts};
 ghost use Rattle.rules.specs.Samples.{powers_of, entry_for, entry_bytes};
+ghost use Rattle.rules.specs.Codes.{is_levelled, executed};
 ghost use Rattle.rules.specs.Cases.{roster_a};
-ghost use Rattle.rules.specs.Desk.{set_up};
-ghost use Rattle.sent_reports.specs.Sent.{sent_as, derating_over, derating_sent, forced_sent, stop_sent, event_sent, parts_sent, length_sent, entry_start};
+ghost use Rattle.rules.specs.Desk.{set_up, new_register};
+ghost use Rattle.sent_reports.specs.Sent.{sent_as, derating_over, derating_sent, forced_sent, stop_sent, event_sent, parts_sent, length_sent, part_sent, levels_sent, head_sent, report_sent};
 
+use quantities::{Kilowatt, Minute};
 use records::{
     CREATE, EVENT, EXECUTED, FORCED_WORK, GENERATION, P, PLANNED, POSITIVE_DERATING, STOP, W1, Z1,
 };
+use rules::{PowerRange, Powers, RosterEntry, Row};
 
 // "D is 13,760,640, which is 2026-03-01 00:00."
 pub const D: u32 = 13760640;
+
+// The most bytes of a report that is sent here, and those of roster A's register: two blocks.
+pub const MOST_BYTES: usize = 82;
+
+pub const REGISTER_SIZE: usize = 14336;
+
+// Where a report's power changes, and the power from then on.
+#[derive(Clone, Copy)]
+pub struct Step {
+    pub at: u32,
+    pub power: u32,
+}
 
 // A creation with direction 1 and ordinal 1. Levelled types have one part, or two where the power changes at a step.
 #[derive(Clone, Copy)]
@@ -29,112 +45,127 @@ pub struct Sent {
     pub start: u32,
     pub end: u32,
     pub power: u32,
-    pub step_at: u32,
-    pub step_power: u32,
-}
-
-// On unit 1, by owner 7, without a step.
-fn sent_as(
-    record_type: u8,
-    start_mark: u8,
-    qualification: u8,
-    place: u8,
-    stamp: u32,
-    start: u32,
-    end: u32,
-    power: u32,
-) -> Sent
-    ensures { result ≡ sent_as record_type start_mark qualification place stamp start end power }
-{
-    Sent {
-        unit: 1,
-        owner: 7,
-        record_type,
-        start_mark,
-        qualification,
-        place,
-        stamp,
-        start,
-        end,
-        power,
-        step_at: 0,
-        step_power: 0,
-    }
-}
-
-pub fn derating_over(place: u8, stamp: u32, start: u32, end: u32) -> Sent
-    ensures { result ≡ derating_over place stamp start end }
-{
-    sent_as(
-        POSITIVE_DERATING,
-        PLANNED,
-        0,
-        place,
-        stamp,
-        start,
-        end,
-        20000,
-    )
+    pub step: Option<Step>,
 }
 
 // "Unless said: create, positive derating, owner 7, direction 1, planned, ordinal 1, t = 0, .. 20,000 in one part D+60 to D+120"
 pub fn derating(place: u8) -> Sent
     ensures { result ≡ derating_sent place }
 {
-    derating_over(place, D + 10, D + 60, D + 120)
+    Sent {
+        unit: 1,
+        owner: 7,
+        record_type: POSITIVE_DERATING,
+        start_mark: PLANNED,
+        qualification: 0,
+        place,
+        stamp: D + 10,
+        start: D + 60,
+        end: D + 120,
+        power: 20000,
+        step: None,
+    }
+}
+
+pub fn derating_over(place: u8, stamp: u32, start: u32, end: u32) -> Sent
+    ensures { result ≡ derating_over place stamp start end }
+{
+    Sent {
+        stamp,
+        start,
+        end,
+        ..derating(place)
+    }
 }
 
 pub fn forced(place: u8, power: u32) -> Sent
     ensures { result ≡ forced_sent place power }
 {
-    sent_as(
-        FORCED_WORK,
-        PLANNED,
-        0,
-        place,
-        D + 10,
-        D + 60,
-        D + 120,
+    Sent {
+        record_type: FORCED_WORK,
         power,
-    )
+        ..derating(place)
+    }
+}
+
+// A record that has begun.
+fn begun(record_type: u8, place: u8, qualification: u8, start: u32, end: u32) -> Sent
+    ensures { result ≡ sent_as record_type executed qualification place (D + 10) start end 20000 }
+{
+    Sent {
+        record_type,
+        start_mark: EXECUTED,
+        qualification,
+        start,
+        end,
+        ..derating(place)
+    }
 }
 
 // "stops and "one from" end D+180"
 pub fn begun_stop(place: u8, qualification: u8, start: u32) -> Sent
     ensures { result ≡ stop_sent place qualification start }
 {
-    sent_as(
-        STOP,
-        EXECUTED,
-        qualification,
-        place,
-        D + 10,
-        start,
-        D + 180,
-        20000,
-    )
+    begun(STOP, place, qualification, start, D + 180)
 }
 
 // "events start at D+10, end = start, mark 2, identifier zero"
 pub fn event(code: u8) -> Sent
     ensures { result ≡ event_sent code }
 {
-    sent_as(EVENT, EXECUTED, code, 0, D + 10, D + 10, D + 10, 20000)
+    begun(EVENT, 0, code, D + 10, D + 10)
 }
 
+#[tactic(auto, unfolding(fields::specs::Lists::pick))]
 fn part_count(s: Sent) -> u16
     ensures upper_bound { result ≤ 2 }
     ensures value { result ≡ parts_sent s }
 {
-    if records::is_levelled(s.record_type) {
-        if s.step_at == 0 { 1 } else { 2 }
-    } else {
-        0
+    if !records::is_levelled(s.record_type) {
+        return 0;
+    }
+    match s.step {
+        None => 1,
+        Some(_) => 2,
     }
 }
 
+// How many bytes the report has.
+pub fn length_of(s: Sent) -> usize
+    ensures bounds { (50 ≤ result) × (result ≤ 82) }
+    ensures value { result ≡ length_sent s }
+{
+    report::text_after(part_count(s))
+}
+
+fn put_head(report: &mut [u8], s: Sent)
+    ensures { report.new ≡ put report.old 0 (encode_head (head_sent s)) }
+{
+    fields::put_u16(report, 0, 0x5052);
+    fields::put_u16(report, 2, s.unit);
+    fields::put_u16(report, 4, s.owner);
+    let codes = [
+        s.record_type,
+        CREATE,
+        GENERATION,
+        s.start_mark,
+        PLANNED,
+        s.qualification,
+    ];
+    fields::put_bytes(report, 6, &codes);
+    fields::put_u16(report, 12, 1);
+    fields::put_u16(report, 14, part_count(s));
+    fields::put_bytes(report, 16, &[s.place; 16]);
+    fields::put_u32(report, 32, s.stamp);
+    fields::put_u32(report, 36, s.start);
+    fields::put_u32(report, 40, s.end);
+    fields::put_u32(report, 44, 0);
+}
+
+#[tactic(auto, using(crate::proofs::Reports::part_put))]
 fn put_part(report: &mut [u8], at: usize, start: u32, end: u32, power: u32)
-    requires { at ≤ 1850 }
+    requires { at ≤ 64 }
+    ensures { report.new ≡ put report.old at (encode_parts (part_sent start end power ∷ [])) }
 {
     fields::put_u16(report, at, 0x4B50);
     fields::put_u16(report, at + 2, 0);
@@ -143,112 +174,125 @@ fn put_part(report: &mut [u8], at: usize, start: u32, end: u32, power: u32)
     fields::put_u32(report, at + 12, power);
 }
 
-fn put_parts(report: &mut [u8], s: Sent) {
-    if s.step_at == 0 {
-        put_part(report, 48, s.start, s.end, s.power);
-    } else {
-        put_part(report, 48, s.start, s.step_at, s.power);
-        put_part(report, 64, s.step_at, s.end, s.step_power);
+#[tactic(auto, using(crate::proofs::Reports::levels_put))]
+fn put_levels(report: &mut [u8], s: Sent)
+    ensures { report.new ≡ put report.old 48 (encode_parts (levels_sent s s.step)) }
+{
+    match s.step {
+        None => put_part(report, 48, s.start, s.end, s.power),
+        Some(step) => {
+            put_part(report, 48, s.start, step.at, s.power);
+            put_part(report, 64, step.at, s.end, step.power);
+        }
     }
 }
 
-fn put_identifier(report: &mut [u8], place: u8) {
-    let word = 16843009 * (place as u32);
-    fields::put_u32(report, 16, word);
-    fields::put_u32(report, 20, word);
-    fields::put_u32(report, 24, word);
-    fields::put_u32(report, 28, word);
-}
-
-fn put_address(report: &mut [u8], s: Sent) {
-    fields::put_u16(report, 0, 0x5052);
-    fields::put_u16(report, 2, s.unit);
-    fields::put_u16(report, 4, s.owner);
-    fields::put_u16(report, 12, 1);
-    fields::put_u16(report, 14, part_count(s));
-}
-
-fn put_codes(report: &mut [u8], s: Sent) {
-    fields::put_u8(report, 6, s.record_type);
-    fields::put_u8(report, 7, CREATE);
-    fields::put_u8(report, 8, GENERATION);
-    fields::put_u8(report, 9, s.start_mark);
-    fields::put_u8(report, 10, PLANNED);
-    fields::put_u8(report, 11, s.qualification);
-}
-
-fn put_times(report: &mut [u8], s: Sent) {
-    fields::put_u32(report, 32, s.stamp);
-    fields::put_u32(report, 36, s.start);
-    fields::put_u32(report, 40, s.end);
-    fields::put_u32(report, 44, 0);
-}
-
-fn length_of(s: Sent) -> usize
-    ensures bounds { (50 ≤ result) × (result ≤ 82) }
-    ensures value { result ≡ length_sent s }
+#[tactic(auto, unfolding(fields::specs::Lists::pick, fields::specs::Lists::put, report::specs::Encoded::encode_parts))]
+fn put_parts(report: &mut [u8], s: Sent)
+    ensures { report.new ≡ put report.old 48 (encode_parts (pick (is_levelled s.record_type) (levels_sent s s.step) [])) }
 {
-    report::PARTS_START + report::PART_SIZE * (part_count(s) as usize) + 2
+    if records::is_levelled(s.record_type) {
+        put_levels(report, s);
+    }
 }
 
-// Puts the report's bytes; how many they are.
-pub fn compose(report: &mut [u8], s: Sent) -> usize
-    ensures upper_bound { result ≤ 82 }
-    ensures value { result ≡ length_sent s }
+#[tactic(auto, using(crate::proofs::Reports::whole_put), unfolding(crate::specs::Sent::report_sent))]
+fn put_report(report: &mut [u8], s: Sent)
+    ensures { report.new ≡ put report.old 0 (report_sent s) }
 {
-    put_address(report, s);
-    put_codes(report, s);
-    put_identifier(report, s.place);
-    put_times(report, s);
+    put_head(report, s);
     put_parts(report, s);
     fields::put_u16(report, length_of(s) - 2, 0x5854);
-    length_of(s)
 }
 
-// An entry's first twelve bytes, and its powers, of generation alone.
-fn put_entry_start(roster: &mut [u8], at: usize, owner: u16, kind: u8, state: u8)
-    requires { at ≤ 1850 }
-    ensures { roster.new ≡ put roster.old at (entry_start owner kind state) }
+// Puts the report's bytes at the start of the buffer, and lends them, as far as there is room.
+#[tactic(auto, using(crate::proofs::Reports::report_read))]
+pub fn compose(buffer: &mut [u8], s: Sent) -> &mut [u8]
+    ensures value { result.now ≡ take (length_sent s) (put buffer.old 0 (report_sent s)) }
+    ensures whole { MOST_BYTES ≤ length buffer.old → result.now ≡ report_sent s }
+{
+    put_report(buffer, s);
+    let end = length_of(s).min(buffer.len());
+    &mut buffer[..end]
+}
+
+// An owner's unit of a kind, in this state since D, with powers of generation alone.
+fn entry(owner: u16, kind: u8, state: u8, max: u32, min: u32) -> RosterEntry
+    ensures { result ≡ entry_for owner kind state (powers_of max min 0 0) }
+{
+    let row = Row {
+        state,
+        qualification: 0,
+        since: Minute(D),
+    };
+    let generation = PowerRange {
+        max: Kilowatt(max),
+        min: Kilowatt(min),
+    };
+    let consumption = PowerRange {
+        max: Kilowatt(0),
+        min: Kilowatt(0),
+    };
+    let powers = Powers {
+        generation,
+        consumption,
+    };
+    RosterEntry {
+        owner,
+        kind,
+        row,
+        powers,
+    }
+}
+
+#[tactic(auto, using(crate::proofs::Entries::entry_put))]
+fn put_entry(roster: &mut [u8], at: usize, e: RosterEntry)
+    requires { at ≤ 28 }
+    ensures { roster.new ≡ put roster.old at (entry_bytes e) }
 {
     fields::put_u16(roster, at, 0x474A);
-    fields::put_u16(roster, at + 2, owner);
-    fields::put_u8(roster, at + 4, kind);
-    fields::put_u8(roster, at + 5, state);
-    fields::put_u16(roster, at + 6, 0);
-    fields::put_u32(roster, at + 8, D);
+    fields::put_u16(roster, at + 2, e.owner);
+    let row = [e.kind, e.row.state, e.row.qualification, 0];
+    fields::put_bytes(roster, at + 4, &row);
+    fields::put_u32(roster, at + 8, e.row.since.0);
+    put_range(roster, at + 12, e.powers.generation);
+    put_range(roster, at + 20, e.powers.consumption);
 }
 
-fn put_powers(roster: &mut [u8], at: usize, max: u32, min: u32)
-    requires { at ≤ 1862 }
-    ensures { roster.new ≡ put roster.old at (powers_bytes (powers_of max min 0 0)) }
+#[tactic(auto, using(crate::proofs::Entries::range_put))]
+fn put_range(roster: &mut [u8], at: usize, r: PowerRange)
+    requires { at ≤ 48 }
+    ensures { roster.new ≡ put roster.old at (bytes_of 4 r.max.0 ++ bytes_of 4 r.min.0) }
 {
-    fields::put_u32(roster, at, max);
-    fields::put_u32(roster, at + 4, min);
-    fields::put_u32(roster, at + 8, 0);
-    fields::put_u32(roster, at + 12, 0);
-}
-
-fn put_entry(roster: &mut [u8], at: usize, owner: u16, kind: u8, state: u8, max: u32, min: u32)
-    requires { at ≤ 1850 }
-    ensures { roster.new ≡ put roster.old at (entry_bytes (entry_for owner kind state (powers_of max min 0 0))) }
-{
-    put_entry_start(roster, at, owner, kind, state);
-    put_powers(roster, at + 12, max, min);
+    fields::put_u32(roster, at, r.max.0);
+    fields::put_u32(roster, at + 4, r.min.0);
 }
 
 // "unit 1, owner 7, W1, state 5, since D, 200,000 and 80,000; unit 2, owner 9, Z1, since D, 50,000 and 0"
+#[tactic(auto, using(crate::proofs::Entries::roster_put))]
 pub fn put_roster_a(roster: &mut [u8])
     ensures { roster.new ≡ put roster.old 0 roster_a }
 {
-    put_entry(roster, 0, 7, W1, P, 200000, 80000);
-    put_entry(roster, 28, 9, Z1, 0, 50000, 0);
+    put_entry(roster, 0, entry(7, W1, P, 200000, 80000));
+    put_entry(roster, 28, entry(9, Z1, 0, 50000, 0));
 }
 
-// Sets the register up from roster A, as it is before each case.
+// Sets the register up from roster A.
+#[tactic(auto, using(crate::proofs::Entries::roster_alone))]
 pub fn fresh(register: &mut [u8])
     ensures { register.new ≡ (set_up roster_a register.old).after }
 {
     let mut roster = [0u8; 56];
     put_roster_a(&mut roster);
     setup::set_up(&roster, register);
+}
+
+// The register of roster A, as it is before each case.
+#[tactic(auto, using(crate::proofs::Entries::fresh_after))]
+pub fn fresh_register() -> [u8; REGISTER_SIZE]
+    ensures { result ≡ new_register roster_a }
+{
+    let mut register = [0u8; REGISTER_SIZE];
+    fresh(&mut register);
+    register
 }

@@ -1,0 +1,82 @@
+-- The puts of a report's fields as one put, and what is read of it. Assumes nothing.
+use Prim.Native.Nat.{ℕ, ◌+◌, ◌-◌, ◌<◌, ◌≤◌}
+use mathlib.Core.Path.{◌≡◌, refl}
+use mathlib.Core.Bool.{Bool, true, false}
+use mathlib.Core.List.{List, [], ◌∷◌}
+use native.Mathlib.Omega.{arith}
+use lib.ListN.{length, replicate, take}
+use Rattle.std.specs.Prelude.{Option, Some, None}
+use Rattle.std.specs.Int.{w32}
+use mir.ValLaws.{of_z-to_z}
+use Rattle.fields.specs.Fields.{bytes_of}
+use Rattle.fields.specs.Lists.{pick, part, put}
+use Rattle.fields.proofs.Slices.{part-put as put_read}
+use Rattle.report.specs.Report.{report_mark, part_mark, text_mark, text_after}
+use Rattle.report.specs.Encoded.{encode_head, encode_parts, encode_report}
+use Rattle.rules.specs.Codes.{is_levelled, create, generation, planned}
+use Rattle.sent_reports.specs.declared.Sent.{Sent}
+use Rattle.sent_reports.specs.declared.Step.{Step}
+use Rattle.sent_reports.specs.Sent.{length_sent, parts_sent, step_parts, part_sent, levels_sent, head_sent, report_sent}
+use Rattle.sent_reports.proofs.Puts.{put_on}
+
+pub head_put : (s : List ℕ) (x : Sent)
+    → put (put (put (put (put (put (put (put (put (put (put s 0 (bytes_of 2 report_mark)) 2 (bytes_of 2 x.unit)) 4 (bytes_of 2 x.owner))
+    6 (x.record_type ∷ create ∷ generation ∷ x.start_mark ∷ planned ∷ x.qualification ∷ [])) 12 (bytes_of 2 1)) 14 (bytes_of 2 (parts_sent x)))
+    16 (replicate 16 x.place)) 32 (bytes_of 4 x.stamp)) 36 (bytes_of 4 x.start)) 40 (bytes_of 4 x.end)) 44 (bytes_of 4 0)
+    ≡ put s 0 (encode_head (head_sent x))
+unfolding bytes_of encode_head
+head_put s x =
+    put_on s 0 _ (bytes_of 4 0)
+    (put_on s 0 _ (bytes_of 4 x.end)
+    (put_on s 0 _ (bytes_of 4 x.start)
+    (put_on s 0 _ (bytes_of 4 x.stamp)
+    (put_on s 0 _ (replicate 16 x.place)
+    (put_on s 0 _ (bytes_of 2 (parts_sent x))
+    (put_on s 0 _ (bytes_of 2 1)
+    (put_on s 0 _ (x.record_type ∷ create ∷ generation ∷ x.start_mark ∷ planned ∷ x.qualification ∷ [])
+    (put_on s 0 _ (bytes_of 2 x.owner)
+    (put_on s 0 (bytes_of 2 report_mark) (bytes_of 2 x.unit) refl)))))))))
+
+pub part_put : (s : List ℕ) (at start end power : ℕ) → power < 4294967296
+    → put (put (put (put (put s at (bytes_of 2 part_mark)) (at + 2) (bytes_of 2 0)) (at + 4) (bytes_of 4 start)) (at + 8) (bytes_of 4 end))
+    (at + 12) (bytes_of 4 power)
+    ≡ put s at (encode_parts (part_sent start end power ∷ []))
+unfolding bytes_of encode_parts
+part_put s at start end power fits =
+    rw (of_z-to_z w32 power (record { fits = fits }))
+    (put_on s at _ (bytes_of 4 power)
+    (put_on s at _ (bytes_of 4 end)
+    (put_on s at _ (bytes_of 4 start) (put_on s at (bytes_of 2 part_mark) (bytes_of 2 0) refl))))
+
+pub levels_put : (s : List ℕ) (x : Sent) (step : Step)
+    → put (put s 48 (encode_parts (part_sent x.start step.at x.power ∷ []))) 64 (encode_parts (part_sent step.at x.end step.power ∷ []))
+    ≡ put s 48 (encode_parts (levels_sent x (Some step)))
+unfolding bytes_of encode_parts
+levels_put s x step = put_on s 48 (encode_parts (part_sent x.start step.at x.power ∷ [])) _ refl
+
+module _ (s : List ℕ) (x : Sent) where
+  pub whole_put : (b : Bool) (step : Option Step)
+      → put (put (put s 0 (encode_head (head_sent x))) 48 (encode_parts (pick b (levels_sent x step) [])))
+      (text_after (pick b (step_parts step) 0) - 2) (bytes_of 2 text_mark)
+      ≡ put s 0 (encode_report (head_sent x) (pick b (levels_sent x step) []) [])
+  unfolding pick bytes_of encode_head encode_parts encode_report
+  whole_put true None = put_on s 0 _ _ (put_on s 0 (encode_head (head_sent x)) _ refl)
+  whole_put true (Some step) = put_on s 0 _ _ (put_on s 0 (encode_head (head_sent x)) _ refl)
+  whole_put false None = put_on s 0 _ _ (put_on s 0 (encode_head (head_sent x)) [] refl)
+  whole_put false (Some step) = put_on s 0 _ _ (put_on s 0 (encode_head (head_sent x)) [] refl)
+
+lengths : (x : Sent) (b : Bool) (step : Option Step)
+    → (length (encode_report (head_sent x) (pick b (levels_sent x step) []) []) ≡ text_after (pick b (step_parts step) 0))
+    × (text_after (pick b (step_parts step) 0) ≤ 82)
+unfolding pick bytes_of encode_head encode_parts encode_report
+lengths x true None = (refl, omega arith)
+lengths x true (Some step) = (refl, omega arith)
+lengths x false None = (refl, omega arith)
+lengths x false (Some step) = (refl, omega arith)
+
+-- where there is room, what was put is the report
+pub report_read : (s : List ℕ) (x : Sent) → 82 ≤ length s → take (length_sent x) (put s 0 (report_sent x)) ≡ report_sent x
+unfolding report_sent part
+report_read s x room =
+    let ends = lengths x (is_levelled x.record_type) x.step in
+    rw (← ends.0) (put_read s 0 (report_sent x) (rw ends.0 (omega arith)))
