@@ -1,27 +1,17 @@
-use mathlib.Core.Path.{◌∙◌}
+use Rattle.report.proofs.remark.Goals as goal
+use mathlib.Core.Path.{ap, ◌∙◌}
 use native.Mathlib.Omega.{arith}
 use Rattle.fields.proofs.Slices.{part-lent}
-use Rattle.report.proofs.Remarks.{in-report, the-standing, the-text}
-use Rattle.report.proofs.remark.Goals as goal
-
-pub returns-then-place : goal.returns-then-place
-returns-then-place c =
-    let there = the-standing c.args.report c.args.standing c.remark_place-place.ensures c.if-place.true in
-    record { place = there.0; bytes = there.1.0; number_after = there.1.1 }
+use Rattle.report.specs.Remark.{bytes_there}
+use Rattle.report.proofs.Remarks.{in-report}
 
 pub overflow_add-end : goal.overflow_add-end
-overflow_add-end c = omega (arith, in-report _ _ c.remark_place-place.ensures c.if-place.false)
+overflow_add-end c = omega (arith, in-report _ (rw c.in-Some-InReport.field-0-is at c.in-Some-InReport.ensures))
 
 pub slice_bounds-result-end : goal.slice_bounds-result-end
-slice_bounds-result-end c = omega (arith, in-report _ _ c.remark_place-place.ensures c.if-place.false)
+slice_bounds-result-end c = omega (arith, in-report _ (rw c.in-Some-InReport.field-0-is at c.in-Some-InReport.ensures))
 
-pub returns : goal.returns
-returns c =
-    let args = c.args in
-    let text = the-text args.report args.standing c.remark_place-place.ensures
-    c.if-place.false in
-    record {
-      place = text.0;
-      bytes = part-lent _ _ _ ∙ text.1.0;
-      number_after = text.1.1;
-    }
+pub returns-in-Some-InReport-clause-bytes : goal.returns-in-Some-InReport-clause-bytes
+returns-in-Some-InReport-clause-bytes c =
+    part-lent _ _ _
+    ∙ ap (λ p. bytes_there p c.args.report.now c.args.standing.now) (rw c.in-Some-InReport.field-0-is at c.in-Some-InReport.ensures)
