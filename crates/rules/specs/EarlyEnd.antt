@@ -1,5 +1,5 @@
 -- Paper 02, A2, "A derating that ended early": when a report with end mark 2 is accepted, and what it leaves.
-use Rattle.std.specs.Prelude.{ℕ, ◌<◌, ◌≡◌, List, [], ◌∷◌, Bool, true, false, eqb, ltb}
+use Rattle.std.specs.Prelude.{ℕ, ◌<◌, ◌≡◌, List, [], ◌∷◌, Bool, true, false, eqb, ltb, is_ok}
 use Rattle.fields.specs.Fields.{bytes_of}
 use Rattle.fields.specs.Lists.{every, part, put}
 use Rattle.report.specs.Cover.{cover_of}
@@ -18,7 +18,7 @@ early_end_passes b s =
     (question4 (head_of s) (parts_of s)
     ∷ kind_allows (unit_head b).kind (record_of s)
     ∷ early_end_times (head_of s)
-    ∷ (cover_of (parts_of s) (head_of s).period).covered
+    ∷ is_ok (cover_of (parts_of s) (head_of s).period)
     ∷ powers_in_range (parts_of s)
     ∷ question10 (unit_head b).last_stamp (head_of s)
     ∷ ltb (holder b s) slot_count

@@ -1,9 +1,9 @@
 -- Questions 4 to 9: for each clause a report that just passes and one that just fails.
-use Rattle.std.specs.Prelude.{ℕ, ◌+◌, ◌-◌, List, [], ◌∷◌, ◌++◌, Bool, not, ◌&&◌, eqb, take, drop}
+use Rattle.std.specs.Prelude.{ℕ, ◌+◌, ◌-◌, List, [], ◌∷◌, ◌++◌, Bool, not, ◌&&◌, eqb, take, drop, is_ok}
 use Rattle.fields.specs.Lists.{series}
 use Rattle.quantities.specs.declared.Period.{Period}
 use Rattle.report.specs.declared.Part.{Part}
-use Rattle.report.specs.Cover.{cover_of}
+use Rattle.report.specs.Cover.{cover_of, broken_part}
 use Rattle.report.specs.Report.{head_of, parts_of}
 use Rattle.rules.specs.Codes.{stop, positive_derating, negative_derating, forced_work, off_grid, event, planned, executed}
 use Rattle.rules.specs.Questions.{question7}
@@ -196,10 +196,10 @@ minutes n = series (λ i. part_of i (i + 1) 0) 0 n
 
 -- the parts cover the period and none is named; they do not, and part n is named
 abbrev pub covered : List Part → Period → Bool
-covered ps q = (cover_of ps q).covered && eqb (cover_of ps q).part 0
+covered ps q = is_ok (cover_of ps q) && eqb (broken_part (cover_of ps q)) 0
 
 abbrev pub broken_at : ℕ → List Part → Period → Bool
-broken_at n ps q = not (cover_of ps q).covered && eqb (cover_of ps q).part n
+broken_at n ps q = not (is_ok (cover_of ps q)) && eqb (broken_part (cover_of ps q)) n
 
 -- 8. "Types 2–4: do 1 to 100 parts, each start < end, cover the period, in time order, without gap or overlap? Other types, and
 -- withdrawals: no parts?"
