@@ -5,15 +5,15 @@ ghost use Rattle.std.specs.Prelude.{◌≡◌, ◌&&◌, ◌||◌, []};
 ghost use Rattle.report.specs.Report.{parts_of};
 ghost use Rattle.rules.specs.Records.{part_times, begun};
 ghost use Rattle.rules.specs.Questions.{record_by, quarter_hour, part_on_quarter, derating_fits, end_mark_in_range, early_end_times, question4, question6, question8};
-ghost use Rattle.validation.specs.Parts.{larger_of, part_of_size, answers_of, PartsAsked, refusal_with, validation_refusal, validated_of};
+ghost use Rattle.validation.specs.Parts.{part_of_size, answers_of, cover_asked, validated_of};
 
 use quantities::{Kilowatt, Minute};
 use records::{
     CHANGE, CREATE, EVENT, EXECUTED, NEGATIVE_DERATING, OFF_GRID, PLANNED, POSITIVE_DERATING, STOP,
-    WITHDRAW, ask,
+    WITHDRAW, must,
 };
-use report::{Cover, Head, Part};
-use rules::{PowerRange, UnitHead};
+use report::{Broken, Head, Part};
+use rules::{PowerRange, Refusal, UnitHead};
 
 // What is asked of each part: its times (question 4), its end on a quarter hour (7), its power (9), its derating (16).
 #[derive(Clone, Copy)]
@@ -21,21 +21,6 @@ pub struct PartAnswers {
     pub times: bool,
     pub on_quarters: bool,
     pub powers: bool,
-    pub deratings: bool,
-}
-
-// The number of the first "no" of questions 4 to 9, or 0, and beside 8 the part that breaks cover.
-#[derive(Clone, Copy)]
-pub struct Refusal {
-    pub number: u8,
-    pub part: u16,
-}
-
-// The same, and question 16.
-#[derive(Clone, Copy)]
-pub struct Validated {
-    pub number: u8,
-    pub part: u16,
     pub deratings: bool,
 }
 
@@ -55,12 +40,6 @@ fn part_is_on_quarter(p: Part, stamp: Minute) -> bool
     ensures { result ≡ part_on_quarter stamp p }
 {
     (p.period.end.0 <= stamp.0) | is_quarter_hour(p.period.end)
-}
-
-fn larger(p: Kilowatt, q: Kilowatt) -> Kilowatt
-    ensures { result ≡ larger_of p q }
-{
-    if p.0 < q.0 { q } else { p }
 }
 
 fn derating_fits(range: PowerRange, record_type: u8, size: Kilowatt) -> bool
@@ -87,7 +66,7 @@ fn ask_parts(report: &[u8], stamp: Minute, range: PowerRange, record_type: u8) -
         times = times & part_is_times(p);
         on_quarters = on_quarters & part_is_on_quarter(p, stamp);
         powers = powers & quantities::is_signed_power(p.power);
-        largest = larger(largest, quantities::size_of(p.power));
+        largest = largest.max(quantities::size_of(p.power));
     }
     let deratings = (k == 0) | derating_fits(range, record_type, largest);
     PartAnswers {
@@ -157,7 +136,7 @@ fn head_is_on_quarters(h: Head) -> bool
 }
 
 // Question 8.
-fn judge_cover(h: Head, report: &[u8]) -> Cover
+fn judge_cover(h: Head, report: &[u8]) -> Result<(), Broken>
     ensures { result ≡ question8 h (parts_of report.now) }
 {
     if (h.operation == WITHDRAW) | !records::is_levelled(h.record_type) {
@@ -166,44 +145,32 @@ fn judge_cover(h: Head, report: &[u8]) -> Cover
     report::cover_of(report, h.period)
 }
 
-fn refusal_with(number: u8, cover: Cover) -> Refusal
-    ensures { result ≡ refusal_with number cover }
+// Its refusal, which carries the part that breaks cover.
+fn must_cover(h: Head, report: &[u8]) -> Result<(), Refusal>
+    ensures { result ≡ cover_asked h (parts_of report.now) }
 {
-    if number == 8 {
-        Refusal {
-            number,
-            part: cover.part,
-        }
-    } else {
-        Refusal { number, part: 0 }
+    match judge_cover(h, report) {
+        Ok(()) => Ok(()),
+        Err(broken) => Err(Refusal {
+            number: 8,
+            part: broken.part,
+        }),
     }
 }
 
-// Questions 4 to 9, after what was asked of each part.
-fn validation_refusal(kind: u8, h: Head, report: &[u8], parts: PartAnswers) -> Refusal
-    requires { PartsAsked (parts_of report.now) h.stamp parts }
-    ensures { result ≡ validation_refusal kind h (parts_of report.now) }
-{
-    let r = records::record_by(h);
-    let fields = head_passes(h) & parts.times;
-    let quarters = (h.record_type == EVENT) | (head_is_on_quarters(h) & parts.on_quarters);
-    let cover = judge_cover(h, report);
-    let from_8 = ask(h, 8, cover.covered, ask(h, 9, parts.powers, 0));
-    let from_6 = ask(h, 6, times_are_consistent(h), ask(h, 7, quarters, from_8));
-    let from_5 = ask(h, 5, records::kind_allows(kind, r), from_6);
-    refusal_with(ask(h, 4, fields, from_5), cover)
-}
-
-// Questions 4 to 9, and 16.
-pub fn validate(unit: UnitHead, h: Head, report: &[u8]) -> Validated
+// The first "no" of questions 4 to 9, or what question 16 is answered.
+pub fn validate(unit: UnitHead, h: Head, report: &[u8]) -> Result<bool, Refusal>
     ensures { result ≡ validated_of unit h (parts_of report.now) }
 {
+    let r = records::record_by(h);
     let range = records::range_of(unit.powers, h.direction);
     let parts = ask_parts(report, h.stamp, range, h.record_type);
-    let refusal = validation_refusal(unit.kind, h, report, parts);
-    Validated {
-        number: refusal.number,
-        part: refusal.part,
-        deratings: parts.deratings,
-    }
+    must(h, 4, head_passes(h) & parts.times)?;
+    must(h, 5, records::kind_allows(unit.kind, r))?;
+    must(h, 6, times_are_consistent(h))?;
+    let quarters = (h.record_type == EVENT) | (head_is_on_quarters(h) & parts.on_quarters);
+    must(h, 7, quarters)?;
+    must_cover(h, report)?;
+    must(h, 9, parts.powers)?;
+    Ok(parts.deratings)
 }
