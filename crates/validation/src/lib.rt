@@ -39,7 +39,7 @@ fn is_quarter_hour(m: Minute) -> bool
 fn part_is_on_quarter(p: Part, stamp: Minute) -> bool
     ensures { result ≡ part_on_quarter stamp p }
 {
-    (p.period.end.0 <= stamp.0) | is_quarter_hour(p.period.end)
+    (p.period.end <= stamp) | is_quarter_hour(p.period.end)
 }
 
 fn derating_fits(range: PowerRange, record_type: u8, size: Kilowatt) -> bool
