@@ -180,9 +180,11 @@ fn put_remark(text: &mut [u8], at: usize, report: &[u8]) -> usize
     ensures value { result ≡ at + length (remark_column report.now) }
     ensures text_after { text.new ≡ put text.old at (remark_column report.now) }
 {
-    let mut number = 0u8;
     let remark_at = put_text(text, at, b" | ");
-    let remark = report::remark(report, b"no remark", &mut number);
+    let remark = match report::remark(report, b"no remark") {
+        Ok(found) => found,
+        Err(refused) => refused.stretch,
+    };
     put_shown(text, remark_at, remark)
 }
 
