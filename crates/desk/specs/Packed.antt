@@ -1,8 +1,8 @@
 -- An answer in one word, a remark's number and source, and a date's number and minute, as the C interface gives them.
-use Rattle.std.specs.Prelude.{ℕ, ◌+◌, ◌*◌}
-use Rattle.fields.specs.Lists.{pick}
+use Rattle.std.specs.Prelude.{ℕ, ◌+◌, ◌*◌, List, length, Option, Some, None}
 use Rattle.calendar.specs.declared.DateRead.{DateRead}
 use Rattle.report.specs.declared.RemarkPlace.{RemarkPlace}
+use Rattle.report.specs.declared.RemarkPlace.TheVariants.{Standing, InReport}
 use Rattle.rules.specs.declared.Answer.{Answer}
 
 -- the number in the low byte, the warnings above it, the part above both
@@ -10,8 +10,21 @@ abbrev pub packed : Answer → ℕ
 packed a = a.number + 256 * a.warnings + 65536 * a.part
 
 -- the number in the low byte, 1 above it where the remark is the standing text
-abbrev pub packed_remark : RemarkPlace → ℕ
-packed_remark p = p.number + 256 * pick p.standing 1 0
+abbrev pub packed_remark : Option RemarkPlace → ℕ
+packed_remark (Some Standing) = 256
+packed_remark (Some (InReport start n)) = 0
+packed_remark None = 2
+
+-- where it begins in the text that it lies in, and its length; 0 and 0 where there is none
+abbrev pub remark_start : Option RemarkPlace → ℕ
+remark_start (Some Standing) = 0
+remark_start (Some (InReport start n)) = start
+remark_start None = 0
+
+abbrev pub remark_length : Option RemarkPlace → List ℕ → ℕ
+remark_length (Some Standing) standing = length standing
+remark_length (Some (InReport start n)) standing = n
+remark_length None standing = 0
 
 -- the number in the low half, the minute in the high one
 abbrev pub packed_date : DateRead → ℕ

@@ -3,18 +3,19 @@
 
 ghost use Rattle.std.specs.Prelude.{◌≡◌, ◌≤◌, true, Ok, Err};
 ghost use Rattle.report.specs.Report.{most_parts, part_count_of};
-ghost use Rattle.report.specs.Remark.{remark_in};
+ghost use Rattle.report.specs.Remark.{remark_place};
 ghost use Rattle.fields.specs.Lists.{pick};
 ghost use Rattle.rules.specs.Judge.{told, no_to, judge as judged};
 ghost use Rattle.rules.specs.Desk.{set_up, question3, answer_to};
 ghost use Rattle.rules.specs.Block.{unit_head};
 ghost use Rattle.rules.specs.Whole.{block_whole};
 ghost use Rattle.calendar.specs.Reading.{date_read, put_answer, date_put};
-ghost use Rattle.desk.specs.Packed.{packed, packed_remark, packed_date};
+ghost use Rattle.desk.specs.Packed.{packed, packed_remark, remark_start, remark_length, packed_date};
 
 use after::Plan;
 use block::BLOCK_SIZE;
 use quantities::Minute;
+use report::RemarkPlace;
 use rules::{Answer, Refusal};
 
 // The paper's number and values of what is answered: 0 with the sum of an accepted report's warnings, or a refusal's number and part.
@@ -119,14 +120,18 @@ pub fn desk_answer(register: &mut [u8], report: &[u8]) -> u32
 
 // For C: the remark's number, and 256 where it is the standing text; where it begins, and its length.
 pub fn desk_remark(report: &[u8], standing: &[u8], place: &mut u64, length: &mut u64) -> u32
-    ensures value { result ≡ packed_remark (remark_in report.now standing.now) }
-    ensures place_after { place.new ≡ (remark_in report.now standing.now).start }
-    ensures length_after { length.new ≡ (remark_in report.now standing.now).length }
+    ensures value { result ≡ packed_remark (remark_place report.now) }
+    ensures place_after { place.new ≡ remark_start (remark_place report.now) }
+    ensures length_after { length.new ≡ remark_length (remark_place report.now) standing.now }
 {
-    let p = report::remark_place(report, standing.len());
-    *place = p.start as u64;
-    *length = p.length as u64;
-    p.number as u32 + 256 * (p.standing as u32)
+    let (number, start, bytes) = match report::remark_place(report) {
+        Some(RemarkPlace::Standing) => (256, 0, standing.len()),
+        Some(RemarkPlace::InReport { start, length }) => (0, start, length),
+        None => (2, 0, 0),
+    };
+    *place = start as u64;
+    *length = bytes as u64;
+    number
 }
 
 // For C: the number, and 2^32 times the minute.

@@ -2,10 +2,10 @@
 #![tactic(auto)]
 
 ghost use Rattle.std.specs.Prelude.{◌≡◌};
-ghost use Rattle.report.specs.Remark.{remark_in};
+ghost use Rattle.report.specs.Remark.{remark_place};
 ghost use Rattle.rules.specs.Desk.{set_up, answer_to};
 ghost use Rattle.calendar.specs.Reading.{date_read, put_answer, date_put};
-ghost use Rattle.desk.specs.Packed.{packed, packed_remark, packed_date};
+ghost use Rattle.desk.specs.Packed.{packed, packed_remark, remark_start, remark_length, packed_date};
 
 // 0, 20 or 21.
 #[unsafe(no_mangle)]
@@ -33,9 +33,9 @@ pub extern "C" fn desk_remark(
     place: &mut u64,
     length: &mut u64,
 ) -> u32
-    ensures value { result ≡ packed_remark (remark_in report.now standing.now) }
-    ensures place_after { place.new ≡ (remark_in report.now standing.now).start }
-    ensures length_after { length.new ≡ (remark_in report.now standing.now).length }
+    ensures value { result ≡ packed_remark (remark_place report.now) }
+    ensures place_after { place.new ≡ remark_start (remark_place report.now) }
+    ensures length_after { length.new ≡ remark_length (remark_place report.now) standing.now }
 {
     desk::desk_remark(report, standing, place, length)
 }

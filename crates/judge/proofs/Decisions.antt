@@ -28,7 +28,7 @@ use Rattle.rules.specs.After.{rewrites, slot_written, cleared, some_slot}
 use Rattle.rules.specs.Judge.{skips, asked, must, no_to, part_beside, validation_number, held_number, limit_number, refusal_number}
 use Rattle.rules.proofs.Slots.{numbered}
 use Rattle.levels.specs.Counted.{report_record, swept_records}
-use Rattle.validation.specs.declared.Validated.{Validated}
+use Rattle.validation.proofs.Joins.{passed-with, refused-with}
 use Rattle.validation.specs.Parts.{validated_of}
 use Rattle.judge.specs.declared.SlotAnswers.{SlotAnswers}
 use Rattle.judge.specs.Survey.{holder_of, slot_answers, answers_at, survey_of, free_among}
@@ -292,22 +292,22 @@ module _ (b s : List ℕ) where
       ∙ rw (asked_is, decided_is) (sym (then-outcome limits _))
 
   -- what the code hands from one stage to the next
-  module _ {h : Head} (head : h ≡ head_of s) {unit : UnitHead} (read : unit ≡ unit_head b) {v : Validated}
-      (asked-first : v ≡ validated_of unit h (parts_of s)) where
-    first : v.number ≡ validation
-    first = ap (λ (v : Validated). v.number) asked-first ∙ rw (read, head)
+  module _ {h : Head} (head : h ≡ head_of s) {unit : UnitHead} (read : unit ≡ unit_head b) {validated : Result Bool Refusal}
+      (asked-first : validated ≡ validated_of unit h (parts_of s)) where
+    pub stops-at-validation : {r : Refusal} → validated ≡ Err r → Err r ≡ decision_of b s
+    stops-at-validation {r} e =
+        let told = refused-with unit h (parts_of s) (sym e ∙ asked-first) in
+        let first : r.number ≡ validation = told.0 ∙ rw (read, head) in
+        let named : r.part ≡ part_beside r.number (head_of s) (parts_of s) = told.1.1 ∙ rw head in
+        ap (λ (k : ℕ). Err (record { number = r.number; part = k })) named
+        ∙ refuses-with (number_by ∙ rw (← first, passed_over _ _ refl (ne_eqb r.number 0 told.1.0))) told.1.0
 
-    named : v.part ≡ part_beside v.number (head_of s) (parts_of s)
-    named = rw (ap (λ (v : Validated). v.number) asked-first, ap (λ (v : Validated). v.part) asked-first, head)
-
-    pub stops-at-validation : (v.number ≡ 0 → ⊥) → Err (record { number = v.number; part = v.part }) ≡ decision_of b s
-    stops-at-validation ne =
-        ap (λ (k : ℕ). Err (record { number = v.number; part = k })) named
-        ∙ refuses-with (number_by ∙ rw (← first, passed_over _ _ refl (ne_eqb v.number 0 ne))) ne
-
-    module _ (passed : v.number ≡ 0) {r x : Record} {slot : Option ℕ} {is_held : Bool} {asked-next : Result ⊤ Refusal}
+    module _ {deratings : Bool} (passed : validated ≡ Ok deratings) {r x : Record} {slot : Option ℕ} {is_held : Bool} {asked-next : Result ⊤ Refusal}
         (own : r ≡ record_by h) (found : slot ≡ slot_numbered (holder_of b r)) (there : x ≡ record_at b (unwrap_or slot slot_count))
         (some : is_held ≡ is_some slot) (next : asked-next ≡ holder_asked unit.last_stamp h is_held x) where
+      first_passed : validation ≡ 0
+      first_passed = rw (read, head) at (passed-with unit h (parts_of s) (sym passed ∙ asked-first)).0
+
       slot_is : slot ≡ slot_numbered (holder b s)
       unfolding holder_of holder
       slot_is = found ∙ rw (own, head)
@@ -323,18 +323,18 @@ module _ (b s : List ℕ) where
       stops-at-holder {refusal} e =
           let stopped = outcome-stopped held tt (sym second ∙ e) in
           let number : refusal_number b s ≡ held =
-          number_by ∙ rw (← first, eq-eqb v.number 0 passed, ne_eqb held 0 stopped.0) in
+          number_by ∙ rw (eq-eqb validation 0 first_passed, ne_eqb held 0 stopped.0) in
           ap (λ (x : Refusal). Err x) stopped.1 ∙ outcome-no held _ stopped.0
           ∙ decides-by number (held-names-none (unit_head b).last_stamp (head_of s) (holder b s) (held_record b s))
 
       pub decides : {y : ⊤} {changes : Bool} → asked-next ≡ Ok y → changes ≡ changes_by unit.kind h x
-          → limits_decided b s h unit slot changes v.deratings ≡ decision_of b s
+          → limits_decided b s h unit slot changes deratings ≡ decision_of b s
       unfolding pick question16 changes_state
       decides {y} {changes} e c =
           let z : held ≡ 0 = outcome-passed held tt (sym second ∙ e) in
           let state : changes ≡ changes_state b s = c ∙ rw (held_is, read, head) refl in
-          let deratings : v.deratings ≡ question16 (unit_head b).powers (head_of s) (parts_of s) = ap (λ
-          (v : Validated). v.deratings) asked-first ∙ rw (read, head) in
+          let sixteen : deratings ≡ deratings_fit =
+          (passed-with unit h (parts_of s) (sym passed ∙ asked-first)).1 ∙ rw (read, head) in
           let number : refusal_number b s ≡ limits =
-          number_by ∙ rw (← first, eq-eqb v.number 0 passed, eq-eqb held 0 z) in
-          rw (state, deratings, slot_is, read, head) (limits-are ∙ decides-by number (limits-name-none (head_of s) _ _ _ _ _))
+          number_by ∙ rw (eq-eqb validation 0 first_passed, eq-eqb held 0 z) in
+          rw (state, sixteen, slot_is, read, head) (limits-are ∙ decides-by number (limits-name-none (head_of s) _ _ _ _ _))

@@ -336,18 +336,12 @@ pub fn decide(b: &[u8], report: &[u8]) -> Result<Decision, Refusal>
 {
     let h = report::head_of(report);
     let unit = block::unit_head(b);
-    let validated = validation::validate(unit, h, report);
-    if validated.number != 0 {
-        return Err(Refusal {
-            number: validated.number,
-            part: validated.part,
-        });
-    }
+    let deratings = validation::validate(unit, h, report)?;
     let slot = find_holder(b, records::record_by(h));
     let held = held_record(b, slot);
     ask_holder(unit.last_stamp, h, slot.is_some(), held)?;
     let changes = changes_state(unit.kind, h, held);
-    decide_limits(b, report, h, unit, slot, changes, validated.deratings)
+    decide_limits(b, report, h, unit, slot, changes, deratings)
 }
 
 fn one_stop_one_levelled(x: Record, y: Record) -> bool

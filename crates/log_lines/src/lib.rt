@@ -180,10 +180,11 @@ fn put_remark(text: &mut [u8], at: usize, report: &[u8]) -> usize
     ensures value { result ≡ at + length (remark_column report.now) }
     ensures text_after { text.new ≡ put text.old at (remark_column report.now) }
 {
-    let mut number = 0u8;
     let remark_at = put_text(text, at, b" | ");
-    let remark = report::remark(report, b"no remark", &mut number);
-    put_shown(text, remark_at, remark)
+    match report::remark(report, b"no remark") {
+        Ok(found) => put_shown(text, remark_at, found),
+        Err(refused) => put_shown(text, remark_at, refused.stretch),
+    }
 }
 
 // The line of a report with its answer and its remark.

@@ -9,10 +9,19 @@ use Rattle.log_lines.proofs.put_remark.Goals as goal
 pub put_shown-requires : goal.put_shown-requires
 put_shown-requires c =
     let report = c.args.report.now in
-    (omega arith, omega (arith, ap length c.remark-remark.ensures.bytes, remark-short report standing_remark (omega arith)))
+    (omega arith, omega (arith, ap length c.in-Ok.ensures.bytes, remark-short report standing_remark (omega arith)))
 
-pub returns : goal.returns
-returns c =
-    let said = put_then _ _ _ _ _ _ _ _ (c.put_text-remark_at.ensures.value, c.put_text-remark_at.ensures.text_after)
-    (put_same _ _ _ _ (ap shown c.remark-remark.ensures.bytes) (c.put_shown.ensures.value, c.put_shown.ensures.text_after)) in
-    record { upper_bound = omega arith; value = said.0; text_after = said.1 }
+pub put_shown-requires-in-Err : goal.put_shown-requires-in-Err
+put_shown-requires-in-Err c =
+    let report = c.args.report.now in
+    (omega arith, omega (arith, ap length c.in-Err.ensures.bytes, remark-short report standing_remark (omega arith)))
+
+pub returns-in-Ok-clause-text_after : goal.returns-in-Ok-clause-text_after
+returns-in-Ok-clause-text_after c =
+    (put_then _ _ _ _ _ _ _ _ (c.put_text-remark_at.ensures.value, c.put_text-remark_at.ensures.text_after)
+    (put_same _ _ _ _ (ap shown c.in-Ok.ensures.bytes) (c.put_shown.ensures.value, c.put_shown.ensures.text_after))).1
+
+pub returns-in-Err-clause-text_after : goal.returns-in-Err-clause-text_after
+returns-in-Err-clause-text_after c =
+    (put_then _ _ _ _ _ _ _ _ (c.put_text-remark_at.ensures.value, c.put_text-remark_at.ensures.text_after)
+    (put_same _ _ _ _ (ap shown c.in-Err.ensures.bytes) (c.put_shown-in-Err.ensures.value, c.put_shown-in-Err.ensures.text_after))).1
