@@ -1,17 +1,16 @@
 -- The division that code comes near a day's month by, and the sums by which it reads a month, are right for all 600: tests that
 -- antt computes. Assumes nothing.
-use Prim.Native.Nat.{ℕ, zero, suc, ◌+◌, ◌-◌, ◌*◌, ◌/◌, ◌%◌, ◌≤◌, ◌<◌}
+use Prim.Native.Nat.{ℕ, zero, suc, ◌-◌, ◌≤◌, ◌<◌}
 use mathlib.Core.Path.{◌≡◌, refl}
-use mathlib.Core.Bool.{true, ◌&&◌}
 use mathlib.Core.Logic.{⊎_elim}
 use native.Mathlib.Omega.{arith}
 use native.Mathlib.Numerals.{sub-one}
 use lib.Dec.{eqb}
 use borrow.Author.Tests.{eqb-true}
 use Rattle.fields.specs.Lists.{pick}
-use Rattle.fields.proofs.Bools.{and_left, and_right, lt-or-le}
-use Rattle.calendar.specs.Calendar.{days_in, month_length, month_start, month_of}
-use Rattle.calendar.proofs.Months.{near, passes, passes_at, first_day_by, length_by, last-only}
+use Rattle.fields.proofs.Bools.{lt-or-le}
+use Rattle.calendar.specs.Calendar.{days_in, month_start, month_of}
+use Rattle.calendar.proofs.Months.{near, passes, passes_at, last-only}
 
 -- on the first day of a month the division gives the month
 near_first : (k : ℕ) → k < 600 → near (month_start k) ≡ k
@@ -48,22 +47,3 @@ month-before {day = day} {n = suc n} e b l =
           (lt-or-le day (month_start n));
       last = λ k. omega arith;
     }))
-
-by-arithmetic : (k : ℕ) → k < 600 → (eqb (first_day_by (k / 12) (k % 12)) (month_start k) && eqb (length_by (k / 12) (k % 12)) (month_length k)) ≡ true
-unfolding passes days_in pick
-by-arithmetic k l =
-    passes_at (λ k start. eqb (first_day_by (k / 12) (k % 12)) start && eqb (length_by (k / 12) (k % 12)) (month_length k)) k refl l
-
-module _ (y m : ℕ) (years : y ≤ 49) (months : m ≤ 11) where
-  arithmetic-at : (eqb (first_day_by y m) (month_start (y * 12 + m)) && eqb (length_by y m) (days_in (2000 + y) (m + 1))) ≡ true
-  arithmetic-at =
-      let p : (y * 12 + m) / 12 ≡ y = omega arith in
-      let q : (y * 12 + m) % 12 ≡ m = omega arith in
-      let t = by-arithmetic (y * 12 + m) (omega arith) in
-      rw (p, q) at t
-
-  pub first_by : first_day_by y m ≡ month_start (y * 12 + m)
-  first_by = eqb-true (first_day_by y m) (month_start (y * 12 + m)) (and_left _ (eqb (length_by y m) (days_in (2000 + y) (m + 1))) arithmetic-at)
-
-  pub length-by : length_by y m ≡ days_in (2000 + y) (m + 1)
-  length-by = eqb-true (length_by y m) (days_in (2000 + y) (m + 1)) (and_right (eqb (first_day_by y m) (month_start (y * 12 + m))) _ arithmetic-at)
