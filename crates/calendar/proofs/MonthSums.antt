@@ -1,6 +1,6 @@
 -- The division that code comes near a day's month by, and the sums by which it reads a month, are right for all 600: tests that
 -- antt computes. Assumes nothing.
-use Prim.Native.Nat.{ℕ, zero, suc, ◌-◌, ◌≤◌, ◌<◌}
+use Prim.Native.Nat.{ℕ, zero, suc, ◌+◌, ◌-◌, ◌*◌, ◌/◌, ◌%◌, ◌≤◌, ◌<◌}
 use mathlib.Core.Path.{◌≡◌, refl}
 use mathlib.Core.Logic.{⊎_elim}
 use native.Mathlib.Omega.{arith}
@@ -9,7 +9,7 @@ use lib.Dec.{eqb}
 use borrow.Author.Tests.{eqb-true}
 use Rattle.fields.specs.Lists.{pick}
 use Rattle.fields.proofs.Bools.{lt-or-le}
-use Rattle.calendar.specs.Calendar.{days_in, month_start, month_of}
+use Rattle.calendar.specs.Calendar.{days_in, month_length, month_start, month_of}
 use Rattle.calendar.proofs.Months.{near, passes, passes_at, last-only}
 
 -- on the first day of a month the division gives the month
@@ -47,3 +47,21 @@ month-before {day = day} {n = suc n} e b l =
           (lt-or-le day (month_start n));
       last = λ k. omega arith;
     }))
+
+-- In the fifty years every fourth is a leap year, and from August on the even months have 31 days.
+abbrev pub length_by : ℕ → ℕ → ℕ
+length_by y m = pick (eqb m 2) (pick (eqb (y % 4) 0) 29 28) (30 + (m + m / 8) % 2)
+
+lengths : (k : ℕ) → k < 600 → month_length k ≡ length_by (2000 + k / 12) (k % 12 + 1)
+unfolding passes days_in pick
+lengths k l =
+    eqb-true (month_length k) (length_by (2000 + k / 12) (k % 12 + 1))
+    (passes_at (λ k start. eqb (month_length k) (length_by (2000 + k / 12) (k % 12 + 1))) k refl l)
+
+pub days_by : (y m : ℕ) → 2000 ≤ y → y ≤ 2049 → 1 ≤ m → m ≤ 12 → days_in y m ≡ length_by y m
+days_by y m low high first last =
+    let k = (y - 2000) * 12 + (m - 1) in
+    let year : 2000 + k / 12 ≡ y = omega arith in
+    let month : k % 12 + 1 ≡ m = omega arith in
+    let same = lengths k (omega arith) in
+    rw (year, month) at same

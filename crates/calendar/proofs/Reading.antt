@@ -13,6 +13,8 @@ use lib.Dec.{leb, ltb, eqb}
 use lib.ListN.{length, drop}
 use lib.Seq.{ext_get_or}
 use borrow.Author.Tests.{lt-ltb, ltb-true, ltb-false, le-ltb, le-leb, lt-leb, leb-true, eqb-true, eq-eqb, ne_eqb}
+use Rattle.std.specs.List.{list_all}
+use Rattle.std.proofs.lemmas.List.Sums.{AllPass-from_list_all}
 use Rattle.fields.specs.Lists.{pick, every, and_each, series, seek, same_list, put}
 use Rattle.fields.specs.Fields.{u8_at}
 use Rattle.fields.proofs.Bools.{and_both, pick-elim, lt-or-le, range-true, range-intro, every_true}
@@ -103,35 +105,36 @@ series-self s n e =
 record Form (s : List ℕ) : Type 0 where
   millennium : u8_at s 0 ≡ 50
   century : u8_at s 1 ≡ 48
-  year : digit_value (u8_at s 3) ≤ 9
   after_year : u8_at s 4 ≡ 45
-  month : digit_value (u8_at s 6) ≤ 9
   after_month : u8_at s 7 ≡ 45
-  day : digit_value (u8_at s 9) ≤ 9
   after_day : u8_at s 10 ≡ 32
-  hour : digit_value (u8_at s 12) ≤ 9
   after_hour : u8_at s 13 ≡ 58
+  year : digit_value (u8_at s 3) ≤ 9
+  month : digit_value (u8_at s 6) ≤ 9
+  day : digit_value (u8_at s 9) ≤ 9
+  hour : digit_value (u8_at s 12) ≤ 9
   minute : digit_value (u8_at s 15) ≤ 9
 
 form-tests : (s : List ℕ) → has_date_form s ≡ true → Form s
 unfolding every and_each
 form-tests s f =
-    let digit_at = λ (at : ℕ). is_digit (u8_at s at) in
+    let at = u8_at s in
+    let last = at 3 ∷ at 6 ∷ at 9 ∷ at 12 ∷ at 15 ∷ [] in
     let t = every_true
-    (eqb (u8_at s 0) 50 ∷ eqb (u8_at s 1) 48 ∷ digit_at 3 ∷ eqb (u8_at s 4) 45 ∷ digit_at 6 ∷ eqb (u8_at s 7) 45 ∷ digit_at 9
-    ∷ eqb (u8_at s 10) 32 ∷ digit_at 12 ∷ eqb (u8_at s 13) 58 ∷ digit_at 15 ∷ []) f in
+    (eqb (at 0) 50 ∷ eqb (at 1) 48 ∷ eqb (at 4) 45 ∷ eqb (at 7) 45 ∷ eqb (at 10) 32 ∷ eqb (at 13) 58 ∷ list_all is_digit last ∷ []) f in
+    let digit = AllPass-from_list_all is_digit last t.1.1.1.1.1.1.0 in
     record {
       millennium = eqb-true _ 50 t.0;
       century = eqb-true _ 48 t.1.0;
-      year = digit-most _ t.1.1.0;
-      after_year = eqb-true _ 45 t.1.1.1.0;
-      month = digit-most _ t.1.1.1.1.0;
-      after_month = eqb-true _ 45 t.1.1.1.1.1.0;
-      day = digit-most _ t.1.1.1.1.1.1.0;
-      after_day = eqb-true _ 32 t.1.1.1.1.1.1.1.0;
-      hour = digit-most _ t.1.1.1.1.1.1.1.1.0;
-      after_hour = eqb-true _ 58 t.1.1.1.1.1.1.1.1.1.0;
-      minute = digit-most _ t.1.1.1.1.1.1.1.1.1.1.0;
+      after_year = eqb-true _ 45 t.1.1.0;
+      after_month = eqb-true _ 45 t.1.1.1.0;
+      after_day = eqb-true _ 32 t.1.1.1.1.0;
+      after_hour = eqb-true _ 58 t.1.1.1.1.1.0;
+      year = digit-most (at 3) (digit 0 0 (omega arith));
+      month = digit-most (at 6) (digit 1 0 (omega arith));
+      day = digit-most (at 9) (digit 2 0 (omega arith));
+      hour = digit-most (at 12) (digit 3 0 (omega arith));
+      minute = digit-most (at 15) (digit 4 0 (omega arith));
     }
 
 text-back : {m : Minute} (s : List ℕ) → length s ≡ 16 → has_date_form s ≡ true → RightDate m (date_in s) → date_text (date_in s) ≡ s

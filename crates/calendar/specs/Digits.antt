@@ -1,6 +1,7 @@
 -- A date read by its digits, as code goes, without a search. `dates_are_read_by_their_digits` says that it is what `date_read` gives, so
 -- that nothing here has to be believed.
-use Rattle.std.specs.Prelude.{ℕ, ◌+◌, ◌-◌, ◌*◌, Bool, ◌&&◌, List, eqb, leb, ltb, length, Result, Ok}
+use Rattle.std.specs.Prelude.{ℕ, ◌+◌, ◌-◌, ◌*◌, Bool, ◌&&◌, List, [], ◌∷◌, eqb, leb, ltb, length, Result, Ok}
+use Rattle.std.specs.List.{list_all}
 use Rattle.fields.specs.Fields.{u8_at}
 use Rattle.fields.specs.Lists.{pick}
 use Rattle.quantities.specs.declared.Minute.{Minute}
@@ -20,15 +21,12 @@ two_digits s at = 10 * digit_value (u8_at s at) + digit_value (u8_at s (at + 1))
 abbrev pub is_digit : ℕ → Bool
 is_digit c = leb 48 c && leb c 57
 
--- The characters that every date of 2000 to 2049 has, `20..-..-.. ..:..`, and a digit at the end of each number: the one before it
--- is a digit too where the number is in range.
+-- The characters that every date of 2000 to 2049 has, `20..-..-.. ..:..`, and the last digit of each number: the one before it is a
+-- digit too where the number is in range.
 abbrev pub has_date_form : List ℕ → Bool
 has_date_form s =
-    eqb (u8_at s 0) 50 && eqb (u8_at s 1) 48 && is_digit (u8_at s 3) && eqb (u8_at s 4) 45
-    && is_digit (u8_at s 6) && eqb (u8_at s 7) 45
-    && is_digit (u8_at s 9) && eqb (u8_at s 10) 32
-    && is_digit (u8_at s 12) && eqb (u8_at s 13) 58
-    && is_digit (u8_at s 15)
+    eqb (u8_at s 0) 50 && eqb (u8_at s 1) 48 && eqb (u8_at s 4) 45 && eqb (u8_at s 7) 45 && eqb (u8_at s 10) 32 && eqb (u8_at s 13) 58
+    && list_all is_digit (u8_at s 3 ∷ u8_at s 6 ∷ u8_at s 9 ∷ u8_at s 12 ∷ u8_at s 15 ∷ [])
 
 unfoldable pub date_in : List ℕ → Date
 date_in s = record {
