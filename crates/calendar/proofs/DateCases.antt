@@ -8,7 +8,7 @@ use mathlib.Core.List.{List, [], ◌∷◌}
 use lib.Dec.{eqb}
 use borrow.Author.Tests.{eqb-true}
 use Rattle.fields.specs.Ascii.{ascii}
-use Rattle.fields.specs.Lists.{pick, all, put}
+use Rattle.fields.specs.Lists.{pick, every, and_each, all, put}
 use Rattle.fields.proofs.Bools.{and_left, and_right}
 use Rattle.quantities.specs.declared.Minute.{Minute}
 use Rattle.calendar.specs.declared.DateError.{DateError}
@@ -62,11 +62,11 @@ are-refused (text ∷ texts) t = (
 )
 
 pub dates-read : AreRead dates_read
-unfolding all gives is_given date_by_digits date_in digit_value minute_of month_start days_in pick
+unfolding all gives is_given date_by_digits date_in digit_value minute_of month_start days_in pick every and_each
 dates-read = are-read dates_read refl
 
 pub texts-refused : AreRefused texts_refused
-unfolding all refuses date_by_digits date_in digit_value minute_of month_start days_in pick
+unfolding all refuses date_by_digits date_in digit_value minute_of month_start days_in pick every and_each
 texts-refused = are-refused texts_refused refl
 
 -- the print of a minute that a text gives is the text
@@ -74,7 +74,7 @@ prints : (text : String) (m : ℕ) → gives m text ≡ true → print_of (recor
 prints text m t = (text-printed (ascii text) (record { 0 = m }) (gives-true m text t)).printed_back
 
 pub room-is-asked : RoomIsAsked
-unfolding gives is_given date_by_digits date_in digit_value minute_of month_start days_in pick put
+unfolding gives is_given date_by_digits date_in digit_value minute_of month_start days_in pick every and_each put
 room-is-asked = record {
   none = (refl, refl);
   fifteen = (refl, refl);

@@ -17,7 +17,7 @@ use Rattle.std.specs.List.{list_all}
 use Rattle.std.proofs.lemmas.List.Sums.{AllPass-from_list_all}
 use Rattle.fields.specs.Lists.{pick, every, and_each, series, seek, same_list, put}
 use Rattle.fields.specs.Fields.{u8_at}
-use Rattle.fields.proofs.Bools.{and_both, pick-elim, lt-or-le, range-true, range-intro, every_true}
+use Rattle.fields.proofs.Bools.{and_left, and_right, and_both, pick-elim, lt-or-le, range-true, range-intro, every_true}
 use Rattle.fields.proofs.Tests.{series-length, series-at, seek_found, seek-none, same-list-true, same-list-self}
 use Rattle.quantities.specs.declared.Minute.{Minute}
 use Rattle.quantities.specs.Quantities.{last_minute, is_time}
@@ -25,7 +25,7 @@ use Rattle.calendar.specs.declared.Date.{Date}
 use Rattle.calendar.specs.declared.DateError.{DateError}
 use Rattle.calendar.specs.Calendar.{digit, days_in, month_length, month_start, minute_of, date_of, date_text, print_answer, RightDate}
 use Rattle.calendar.specs.Reading.{print_of, is_print_of, PrintIs, printed_minute, read_minute, no_minute, date_read, date_put}
-use Rattle.calendar.specs.Digits.{digit_value, two_digits, is_digit, has_date_form, date_in, is_month, is_day_and_minute, minute_read, date_by_digits}
+use Rattle.calendar.specs.Digits.{digit_value, two_digits, is_digit, fixed_form, last_digits, has_date_form, date_in, is_month, is_day_and_minute, minute_read, date_by_digits}
 use Rattle.calendar.proofs.Months.{start-mono}
 use Rattle.calendar.proofs.Dates.{years-end, start-next, date-right, month_number, year-and-month, date-only}
 
@@ -75,7 +75,7 @@ last-digit : (n : ℕ) → is_digit (digit n) ≡ true
 last-digit n = range-intro 48 57 (digit n) (omega arith) (omega arith)
 
 form-back : {m : Minute} (d : Date) → RightDate m d → has_date_form (date_text d) ≡ true
-unfolding date_text
+unfolding date_text every and_each
 form-back d r =
     let thousands : digit (d.year / 1000) ≡ 50 = omega (arith, r.in_range) in
     let hundreds : digit (d.year / 100) ≡ 48 = omega (arith, r.in_range) in
@@ -116,13 +116,11 @@ record Form (s : List ℕ) : Type 0 where
   minute : digit_value (u8_at s 15) ≤ 9
 
 form-tests : (s : List ℕ) → has_date_form s ≡ true → Form s
-unfolding every and_each
 form-tests s f =
-    let at = u8_at s in
-    let last = at 3 ∷ at 6 ∷ at 9 ∷ at 12 ∷ at 15 ∷ [] in
-    let t = every_true
-    (eqb (at 0) 50 ∷ eqb (at 1) 48 ∷ eqb (at 4) 45 ∷ eqb (at 7) 45 ∷ eqb (at 10) 32 ∷ eqb (at 13) 58 ∷ list_all is_digit last ∷ []) f in
-    let digit = AllPass-from_list_all is_digit last t.1.1.1.1.1.1.0 in
+    let fixed = every (fixed_form s) in
+    let last = list_all is_digit (last_digits s) in
+    let t = every_true (fixed_form s) (and_left fixed last f) in
+    let digit = AllPass-from_list_all is_digit (last_digits s) (and_right fixed last f) in
     record {
       millennium = eqb-true _ 50 t.0;
       century = eqb-true _ 48 t.1.0;
@@ -130,11 +128,11 @@ form-tests s f =
       after_month = eqb-true _ 45 t.1.1.1.0;
       after_day = eqb-true _ 32 t.1.1.1.1.0;
       after_hour = eqb-true _ 58 t.1.1.1.1.1.0;
-      year = digit-most (at 3) (digit 0 0 (omega arith));
-      month = digit-most (at 6) (digit 1 0 (omega arith));
-      day = digit-most (at 9) (digit 2 0 (omega arith));
-      hour = digit-most (at 12) (digit 3 0 (omega arith));
-      minute = digit-most (at 15) (digit 4 0 (omega arith));
+      year = digit-most (u8_at s 3) (digit 0 0 (omega arith));
+      month = digit-most (u8_at s 6) (digit 1 0 (omega arith));
+      day = digit-most (u8_at s 9) (digit 2 0 (omega arith));
+      hour = digit-most (u8_at s 12) (digit 3 0 (omega arith));
+      minute = digit-most (u8_at s 15) (digit 4 0 (omega arith));
     }
 
 text-back : {m : Minute} (s : List ℕ) → length s ≡ 16 → has_date_form s ≡ true → RightDate m (date_in s) → date_text (date_in s) ≡ s

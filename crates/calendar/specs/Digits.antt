@@ -3,7 +3,7 @@
 use Rattle.std.specs.Prelude.{ℕ, ◌+◌, ◌-◌, ◌*◌, Bool, ◌&&◌, List, [], ◌∷◌, eqb, leb, ltb, length, Result, Ok}
 use Rattle.std.specs.List.{list_all}
 use Rattle.fields.specs.Fields.{u8_at}
-use Rattle.fields.specs.Lists.{pick}
+use Rattle.fields.specs.Lists.{pick, every}
 use Rattle.quantities.specs.declared.Minute.{Minute}
 use Rattle.calendar.specs.declared.Date.{Date}
 use Rattle.calendar.specs.declared.DateError.{DateError}
@@ -21,12 +21,17 @@ two_digits s at = 10 * digit_value (u8_at s at) + digit_value (u8_at s (at + 1))
 abbrev pub is_digit : ℕ → Bool
 is_digit c = leb 48 c && leb c 57
 
--- The characters that every date of 2000 to 2049 has, `20..-..-.. ..:..`, and the last digit of each number: the one before it is a
--- digit too where the number is in range.
+-- the characters that every date of 2000 to 2049 has, `20..-..-.. ..:..`
+abbrev pub fixed_form : List ℕ → List Bool
+fixed_form s =
+    eqb (u8_at s 0) 50 ∷ eqb (u8_at s 1) 48 ∷ eqb (u8_at s 4) 45 ∷ eqb (u8_at s 7) 45 ∷ eqb (u8_at s 10) 32 ∷ eqb (u8_at s 13) 58 ∷ []
+
+-- The last digit of each number. The one before it is a digit too where the number is in range.
+abbrev pub last_digits : List ℕ → List ℕ
+last_digits s = u8_at s 3 ∷ u8_at s 6 ∷ u8_at s 9 ∷ u8_at s 12 ∷ u8_at s 15 ∷ []
+
 abbrev pub has_date_form : List ℕ → Bool
-has_date_form s =
-    eqb (u8_at s 0) 50 && eqb (u8_at s 1) 48 && eqb (u8_at s 4) 45 && eqb (u8_at s 7) 45 && eqb (u8_at s 10) 32 && eqb (u8_at s 13) 58
-    && list_all is_digit (u8_at s 3 ∷ u8_at s 6 ∷ u8_at s 9 ∷ u8_at s 12 ∷ u8_at s 15 ∷ [])
+has_date_form s = every (fixed_form s) && list_all is_digit (last_digits s)
 
 unfoldable pub date_in : List ℕ → Date
 date_in s = record {
