@@ -13,7 +13,7 @@ use Rattle.fields.proofs.Bools.{and_right, pick-elim}
 use Rattle.fields.proofs.Slices.{put-append}
 use Rattle.quantities.specs.declared.Minute.{Minute}
 use Rattle.quantities.specs.Quantities.{is_time}
-use Rattle.calendar.specs.Calendar.{digit, date_of, date_text, printed}
+use Rattle.calendar.specs.Calendar.{digit, date_of, date_text}
 use Rattle.report.specs.Report.{head_of}
 use Rattle.rules.specs.declared.Answer.{Answer}
 use Rattle.log_lines.specs.declared.Totals.{Totals}
@@ -108,21 +108,6 @@ pub unit-there : (here there : List ℕ) (at end number unit : ℕ) → eqb numb
     → Put here at (unit_text number unit ++ space) there end
 unfolding unit_text pick
 unit-there here there at end number unit e p = rw e p
-
-module _ (here : List ℕ) (at number : ℕ) (stamp : Minute) {t : Bool} (test : t ≡ (not (eqb number 2) && is_time stamp)) where
-  pub stamp-missing : (there : List ℕ) (end : ℕ) → t ≡ false → Put here at hyphen there end
-      → Put here at (stamp_text number stamp) there end
-  unfolding stamp_text pick
-  stamp-missing there end e p = rw (sym test ∙ e) p
-
-  pub stamp-there : (there date : List ℕ) (end : ℕ) → t ≡ true → date ≡ printed (replicate 16 0) stamp
-      → Put here at date there end → Put here at (stamp_text number stamp) there end
-  unfolding stamp_text pick
-  stamp-there there date end e d p =
-      let both : (not (eqb number 2) && is_time stamp) ≡ true = sym test ∙ e in
-      let time : is_time stamp ≡ true = and_right (not (eqb number 2)) (is_time stamp) both in
-      let same : date ≡ date_text (date_of stamp) = d ∙ rw time in
-      rw (both, ← same) p
 
 pub line-text-put : (line : ℕ) (s : List ℕ) (a : Answer) (unit : ℕ) (stamp : Minute) (here t₁ t₂ t₃ t₄ t₅ t₆ : List ℕ)
     (e₁ e₂ e₃ e₄ e₅ e₆ : ℕ) → unit ≡ (head_of s).unit → stamp ≡ (head_of s).stamp → Put here 0 (number_column line) t₁ e₁
