@@ -1,24 +1,23 @@
 -- Texts put one after the other, and numbers in decimal. Assumes nothing.
 use Prim.Native.Nat.{ℕ, zero, suc, ◌+◌, ◌*◌, ◌/◌, ◌≤◌, ◌<◌}
 use mathlib.Core.Path.{◌≡◌, refl, sym, ◌∙◌}
-use mathlib.Core.Bool.{Bool, true, false, not, ◌&&◌}
+use mathlib.Core.Bool.{Bool, true, false}
 use mathlib.Core.List.{List, [], ◌∷◌, ◌++◌, append_assoc}
 use native.Mathlib.Nat.{zero-add}
 use native.Mathlib.Omega.{arith}
 use lib.Dec.{ltb, eqb}
-use lib.ListN.{length, replicate, length-append}
+use lib.ListN.{length, length-append}
 use borrow.Author.Tests.{lt-ltb, le-ltb}
 use Rattle.fields.specs.Lists.{pick, put}
-use Rattle.fields.proofs.Bools.{and_right, pick-elim}
+use Rattle.fields.proofs.Bools.{pick-elim}
 use Rattle.fields.proofs.Slices.{put-append}
 use Rattle.quantities.specs.declared.Minute.{Minute}
-use Rattle.quantities.specs.Quantities.{is_time}
-use Rattle.calendar.specs.Calendar.{digit, date_of, date_text}
+use Rattle.calendar.specs.Calendar.{digit}
 use Rattle.report.specs.Report.{head_of}
 use Rattle.rules.specs.declared.Answer.{Answer}
 use Rattle.log_lines.specs.declared.Totals.{Totals}
 use Rattle.fields.specs.Ascii.{ascii}
-use Rattle.log_lines.specs.Log.{decimal_before, decimal, space, line_feed, hyphen, fault_line, set_up_line, unit_text, stamp_text, number_column}
+use Rattle.log_lines.specs.Log.{decimal_before, decimal, space, line_feed, fault_line, set_up_line, unit_text, stamp_text, number_column}
 use Rattle.log_lines.specs.Log.{line_text, totals_line}
 use Rattle.log_lines.specs.Run.{most_counted}
 
