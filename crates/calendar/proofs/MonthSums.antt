@@ -2,16 +2,15 @@
 -- antt computes. Assumes nothing.
 use Prim.Native.Nat.{ℕ, zero, suc, ◌+◌, ◌-◌, ◌*◌, ◌/◌, ◌%◌, ◌≤◌, ◌<◌}
 use mathlib.Core.Path.{◌≡◌, refl}
-use mathlib.Core.Bool.{true, ◌&&◌}
 use mathlib.Core.Logic.{⊎_elim}
 use native.Mathlib.Omega.{arith}
 use native.Mathlib.Numerals.{sub-one}
 use lib.Dec.{eqb}
 use borrow.Author.Tests.{eqb-true}
 use Rattle.fields.specs.Lists.{pick}
-use Rattle.fields.proofs.Bools.{and_left, and_right, lt-or-le}
+use Rattle.fields.proofs.Bools.{lt-or-le}
 use Rattle.calendar.specs.Calendar.{days_in, month_length, month_start, month_of}
-use Rattle.calendar.proofs.Months.{near, passes, passes_at, first_day_by, length_by, last-only}
+use Rattle.calendar.proofs.Months.{near, passes, passes_at, last-only}
 
 -- on the first day of a month the division gives the month
 near_first : (k : ℕ) → k < 600 → near (month_start k) ≡ k
@@ -49,21 +48,20 @@ month-before {day = day} {n = suc n} e b l =
       last = λ k. omega arith;
     }))
 
-by-arithmetic : (k : ℕ) → k < 600 → (eqb (first_day_by (k / 12) (k % 12)) (month_start k) && eqb (length_by (k / 12) (k % 12)) (month_length k)) ≡ true
+-- In the fifty years every fourth is a leap year, and from August on the even months have 31 days.
+abbrev pub length_by : ℕ → ℕ → ℕ
+length_by y m = pick (eqb m 2) (pick (eqb (y % 4) 0) 29 28) (30 + (m + m / 8) % 2)
+
+lengths : (k : ℕ) → k < 600 → month_length k ≡ length_by (2000 + k / 12) (k % 12 + 1)
 unfolding passes days_in pick
-by-arithmetic k l =
-    passes_at (λ k start. eqb (first_day_by (k / 12) (k % 12)) start && eqb (length_by (k / 12) (k % 12)) (month_length k)) k refl l
+lengths k l =
+    eqb-true (month_length k) (length_by (2000 + k / 12) (k % 12 + 1))
+    (passes_at (λ k start. eqb (month_length k) (length_by (2000 + k / 12) (k % 12 + 1))) k refl l)
 
-module _ (y m : ℕ) (years : y ≤ 49) (months : m ≤ 11) where
-  arithmetic-at : (eqb (first_day_by y m) (month_start (y * 12 + m)) && eqb (length_by y m) (days_in (2000 + y) (m + 1))) ≡ true
-  arithmetic-at =
-      let p : (y * 12 + m) / 12 ≡ y = omega arith in
-      let q : (y * 12 + m) % 12 ≡ m = omega arith in
-      let t = by-arithmetic (y * 12 + m) (omega arith) in
-      rw (p, q) at t
-
-  pub first_by : first_day_by y m ≡ month_start (y * 12 + m)
-  first_by = eqb-true (first_day_by y m) (month_start (y * 12 + m)) (and_left _ (eqb (length_by y m) (days_in (2000 + y) (m + 1))) arithmetic-at)
-
-  pub length-by : length_by y m ≡ days_in (2000 + y) (m + 1)
-  length-by = eqb-true (length_by y m) (days_in (2000 + y) (m + 1)) (and_right (eqb (first_day_by y m) (month_start (y * 12 + m))) _ arithmetic-at)
+pub days_by : (y m : ℕ) → 2000 ≤ y → y ≤ 2049 → 1 ≤ m → m ≤ 12 → days_in y m ≡ length_by y m
+days_by y m low high first last =
+    let k = (y - 2000) * 12 + (m - 1) in
+    let year : 2000 + k / 12 ≡ y = omega arith in
+    let month : k % 12 + 1 ≡ m = omega arith in
+    let same = lengths k (omega arith) in
+    rw (year, month) at same

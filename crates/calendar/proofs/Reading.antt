@@ -1,27 +1,31 @@
 -- A date's digits give the date again, and a text's digits its minute: the one whose print it is. Assumes nothing.
+use Rattle.std.specs.Prelude.{Result, Ok}
 use Prim.Native.Nat.{ℕ, ◌+◌, ◌-◌, ◌*◌, ◌/◌, ◌%◌, ◌≤◌, ◌<◌}
 use mathlib.Core.Path.{◌≡◌, refl, ap, sym, ◌∙◌}
-use mathlib.Core.Bool.{Bool, true, false, ◌&&◌, and-false, false≢true}
-use mathlib.Core.List.{List, [], ◌∷◌}
+use mathlib.Core.Bool.{Bool, true, false, false≢true}
+use mathlib.Core.List.{List, [], ◌∷◌, ◌++◌}
 use mathlib.Core.Logic.{⊎_elim}
 use native.Mathlib.Omega.{arith}
 use native.Mathlib.Nat.{div-div-eq-div-mul, zero-add}
 use native.Mathlib.Numerals.{add-one}
+use Rattle.std.proofs.lemmas.List.Edits.{sets-eq}
 use lib.Dec.{leb, ltb, eqb}
-use lib.ListN.{length}
+use lib.ListN.{length, drop}
 use lib.Seq.{ext_get_or}
 use borrow.Author.Tests.{lt-ltb, ltb-true, ltb-false, le-ltb, le-leb, lt-leb, leb-true, eqb-true, eq-eqb, ne_eqb}
-use Rattle.fields.specs.Lists.{pick, every, and_each, series, seek, same_list}
+use Rattle.std.specs.List.{list_all}
+use Rattle.std.proofs.lemmas.List.Sums.{AllPass-from_list_all}
+use Rattle.fields.specs.Lists.{pick, every, and_each, series, seek, same_list, put}
 use Rattle.fields.specs.Fields.{u8_at}
-use Rattle.fields.proofs.Bools.{and_left, and_right, and_both, chosen, passed_over, pick-elim, lt-or-le, Every, every_true}
+use Rattle.fields.proofs.Bools.{and_left, and_right, and_both, pick-elim, lt-or-le, range-true, range-intro, every_true}
 use Rattle.fields.proofs.Tests.{series-length, series-at, seek_found, seek-none, same-list-true, same-list-self}
 use Rattle.quantities.specs.declared.Minute.{Minute}
-use Rattle.quantities.specs.Quantities.{last_minute}
+use Rattle.quantities.specs.Quantities.{last_minute, is_time}
 use Rattle.calendar.specs.declared.Date.{Date}
-use Rattle.calendar.specs.declared.DateRead.{DateRead}
-use Rattle.calendar.specs.Calendar.{digit, days_in, month_length, month_start, minute_of, date_of, date_text, RightDate}
-use Rattle.calendar.specs.Reading.{print_of, is_print_of, PrintIs, printed_minute, read_minute, no_minute, date_read}
-use Rattle.calendar.specs.Digits.{digit_value, two_digits, year_form, day_form, time_form, has_date_form, date_in, is_month, is_day_and_minute, minute_in_month, minute_read, date_by_digits}
+use Rattle.calendar.specs.declared.DateError.{DateError}
+use Rattle.calendar.specs.Calendar.{digit, days_in, month_length, month_start, minute_of, date_of, date_text, print_answer, RightDate}
+use Rattle.calendar.specs.Reading.{print_of, is_print_of, PrintIs, printed_minute, read_minute, no_minute, date_read, date_put}
+use Rattle.calendar.specs.Digits.{digit_value, two_digits, is_digit, fixed_form, last_digits, has_date_form, date_in, is_month, is_day_and_minute, minute_read, date_by_digits}
 use Rattle.calendar.proofs.Months.{start-mono}
 use Rattle.calendar.proofs.Dates.{years-end, start-next, date-right, month_number, year-and-month, date-only}
 
@@ -29,6 +33,12 @@ use Rattle.calendar.proofs.Dates.{years-end, start-next, date-right, month_numbe
 value_of : (n : ℕ) → digit_value (digit n) ≡ n % 10
 unfolding digit_value pick
 value_of n = rw (le-ltb (digit n) 48 (omega arith)) (omega arith)
+
+digit-most : (c : ℕ) → is_digit c ≡ true → digit_value c ≤ 9
+unfolding digit_value pick
+digit-most c t =
+    let r = range-true 48 57 c t in
+    rw (le-ltb c 48 r.0) (omega (arith, r))
 
 digit-of : (c : ℕ) → digit_value c ≤ 9 → 48 + digit_value c ≡ c
 unfolding digit_value
@@ -61,11 +71,11 @@ digits-back d r =
       two_digits-read d.minute (omega (arith, r.in_hour)),
     )
 
-last-digit : (n : ℕ) → leb (digit_value (digit n)) 9 ≡ true
-last-digit n = rw (value_of n) (le-leb (n % 10) 9 (omega arith))
+last-digit : (n : ℕ) → is_digit (digit n) ≡ true
+last-digit n = range-intro 48 57 (digit n) (omega arith) (omega arith)
 
 form-back : {m : Minute} (d : Date) → RightDate m d → has_date_form (date_text d) ≡ true
-unfolding has_date_form date_text every and_each
+unfolding date_text every and_each
 form-back d r =
     let thousands : digit (d.year / 1000) ≡ 50 = omega (arith, r.in_range) in
     let hundreds : digit (d.year / 100) ≡ 48 = omega (arith, r.in_range) in
@@ -91,41 +101,50 @@ series-self s n e =
     ext_get_or 0 (series (u8_at s) 0 n) s (series-length (u8_at s) 0 n ∙ sym e)
     (λ i l. series-at (u8_at s) 0 n i 0 (rw (series-length (u8_at s) 0 n) at l) ∙ rw zero-add)
 
--- the form, test after test
-module _ (s : List ℕ) where
-  pub no-year-form : every (year_form s) ≡ false → false ≡ has_date_form s
-  unfolding has_date_form
-  no-year-form e = rw e
+-- the tests of the form, each as a fact
+record Form (s : List ℕ) : Type 0 where
+  millennium : u8_at s 0 ≡ 50
+  century : u8_at s 1 ≡ 48
+  after_year : u8_at s 4 ≡ 45
+  after_month : u8_at s 7 ≡ 45
+  after_day : u8_at s 10 ≡ 32
+  after_hour : u8_at s 13 ≡ 58
+  year : digit_value (u8_at s 3) ≤ 9
+  month : digit_value (u8_at s 6) ≤ 9
+  day : digit_value (u8_at s 9) ≤ 9
+  hour : digit_value (u8_at s 12) ≤ 9
+  minute : digit_value (u8_at s 15) ≤ 9
 
-  pub no-day-form : every (day_form s) ≡ false → false ≡ has_date_form s
-  unfolding has_date_form
-  no-day-form e = rw (e, and-false)
-
-  pub time-form : {r : Bool} → every (year_form s) ≡ true → every (day_form s) ≡ true → r ≡ every (time_form s) → r ≡ has_date_form s
-  unfolding has_date_form
-  time-form y d e = rw (y, d, e)
-
-form-tests : (s : List ℕ) → has_date_form s ≡ true → Every (year_form s) × Every (day_form s) × Every (time_form s)
-unfolding has_date_form
+form-tests : (s : List ℕ) → has_date_form s ≡ true → Form s
 form-tests s f =
-    let year = every (year_form s) in
-    let day = every (day_form s) in
-    let days = and_left (year && day) (every (time_form s)) f in (
-      every_true (year_form s) (and_left year day days),
-      every_true (day_form s) (and_right year day days),
-      every_true (time_form s) (and_right (year && day) (every (time_form s)) f),
-    )
+    let fixed = every (fixed_form s) in
+    let last = list_all is_digit (last_digits s) in
+    let t = every_true (fixed_form s) (and_left fixed last f) in
+    let digit = AllPass-from_list_all is_digit (last_digits s) (and_right fixed last f) in
+    record {
+      millennium = eqb-true _ 50 t.0;
+      century = eqb-true _ 48 t.1.0;
+      after_year = eqb-true _ 45 t.1.1.0;
+      after_month = eqb-true _ 45 t.1.1.1.0;
+      after_day = eqb-true _ 32 t.1.1.1.1.0;
+      after_hour = eqb-true _ 58 t.1.1.1.1.1.0;
+      year = digit-most (u8_at s 3) (digit 0 0 (omega arith));
+      month = digit-most (u8_at s 6) (digit 1 0 (omega arith));
+      day = digit-most (u8_at s 9) (digit 2 0 (omega arith));
+      hour = digit-most (u8_at s 12) (digit 3 0 (omega arith));
+      minute = digit-most (u8_at s 15) (digit 4 0 (omega arith));
+    }
 
 text-back : {m : Minute} (s : List ℕ) → length s ≡ 16 → has_date_form s ≡ true → RightDate m (date_in s) → date_text (date_in s) ≡ s
 unfolding date_text date_in series
 text-back s n f r =
-    let t = form-tests s f in
+    let form = form-tests s f in
     let days = days-most (date_in s).year (date_in s).month in
-    let year = year-back s (omega (arith, r.in_range)) (leb-true _ _ t.0.1.1.0) in
-    let month = two_back s 5 (omega (arith, r.in_year)) (leb-true _ _ t.1.0) in
-    let day = two_back s 8 (omega (arith, r.in_month, days)) (leb-true _ _ t.1.1.1.0) in
-    let hour = two_back s 11 (omega (arith, r.in_day)) (leb-true _ _ t.2.0) in
-    let minute = two_back s 14 (omega (arith, r.in_hour)) (leb-true _ _ t.2.1.1.0) in
+    let year = year-back s (omega (arith, r.in_range)) form.year in
+    let month = two_back s 5 (omega (arith, r.in_year)) form.month in
+    let day = two_back s 8 (omega (arith, r.in_month, days)) form.day in
+    let hour = two_back s 11 (omega (arith, r.in_day)) form.hour in
+    let minute = two_back s 14 (omega (arith, r.in_hour)) form.minute in
     let same : date_text (date_in s) ≡ series (u8_at s) 0 16
     = rw (
       year.0,
@@ -140,12 +159,12 @@ text-back s n f r =
       hour.1,
       minute.0,
       minute.1,
-      eqb-true (u8_at s 0) 50 t.0.0,
-      eqb-true (u8_at s 1) 48 t.0.1.0,
-      eqb-true (u8_at s 4) 45 t.0.1.1.1.0,
-      eqb-true (u8_at s 7) 45 t.1.1.0,
-      eqb-true (u8_at s 10) 32 t.1.1.1.1.0,
-      eqb-true (u8_at s 13) 58 t.2.1.0,
+      form.millennium,
+      form.century,
+      form.after_year,
+      form.after_month,
+      form.after_day,
+      form.after_hour,
     ) in
     same ∙ series-self s 16 n
 
@@ -193,25 +212,6 @@ module _ (d : Date) (r : (2000 ≤ d.year) × (d.year ≤ 2049) × (1 ≤ d.mont
       let ends = start-mono (month_number d + 1) 600 (omega (arith, r)) in
       omega (arith, ends, month-length, years-end)
 
--- code counts both by years and months: a is the month's first day, n its length
-module _ (d : Date) (r : (2000 ≤ d.year) × (d.year ≤ 2049) × (1 ≤ d.month) × (d.month ≤ 12)) {n : ℕ} {ok : Bool}
-    (days : n ≡ days_in (2000 + (d.year - 2000)) (d.month - 1 + 1)) (tested : ok ≡ is_day_and_minute d n) where
-  pub day-tested : ok ≡ is_day_and_minute d (days_in d.year d.month)
-  day-tested =
-      let y : 2000 + (d.year - 2000) ≡ d.year = omega (arith, r) in
-      let m : d.month - 1 + 1 ≡ d.month = omega (arith, r) in
-      let e : n ≡ days_in d.year d.month = rw (y, m) at days in
-      rw e at tested
-
-  pub month-yes : {a : ℕ} → a ≡ month_start (month_number d) → ok ≡ true
-      → read_minute (((a + (d.day - 1)) * 24 + d.hour) * 60 + d.minute) ≡ minute_in_month d
-  unfolding minute_in_month minute_of
-  month-yes begins t = rw begins (sym (chosen _ _ day-tested t))
-
-  pub month-no : ok ≡ false → no_minute ≡ minute_in_month d
-  unfolding minute_in_month
-  month-no t = sym (passed_over _ _ day-tested t)
-
 minute-in-range : {m : Minute} (d : Date) → RightDate m d → m.0 ≤ last_minute
 unfolding minute_of
 minute-in-range {m} d r =
@@ -220,7 +220,7 @@ minute-in-range {m} d r =
 
 -- "every minute in range comes back from its own print", by its digits
 print-read : (m : Minute) → m.0 ≤ last_minute → date_by_digits (print_of m) ≡ read_minute m.0
-unfolding date_by_digits minute_read minute_in_month pick date_text
+unfolding date_by_digits pick date_text
 print-read m l =
     let d = date_of m in
     let r = date-right m l in
@@ -233,9 +233,9 @@ right-print s r same = record {
   printed_back = ap date_text (sym (date-only (minute_of (date_in s)) (date_in s) r)) ∙ same;
 }
 
-digits-give {ℓ} : (P : DateRead → Type ℓ) (s : List ℕ)
+digits-give {ℓ} : (P : Result Minute DateError → Type ℓ) (s : List ℕ)
     → (PrintIs (minute_of (date_in s)) s → P (read_minute (minute_of (date_in s)).0)) → P no_minute → P (date_by_digits s)
-unfolding date_by_digits minute_read minute_in_month
+unfolding date_by_digits
 digits-give P s some none =
     pick-elim P (eqb (length s) 16)
     (λ n. pick-elim P (has_date_form s)
@@ -247,8 +247,13 @@ digits-give P s some none =
     (λ e. none)) (λ e. none)) (λ e. none)) (λ e. none)
 
 -- "printing that minute gives the text again"
-read-print : (s : List ℕ) → (date_by_digits s).number ≡ 0 → PrintIs (date_by_digits s).minute s
-read-print s = digits-give (λ r. r.number ≡ 0 → PrintIs r.minute s) s (λ p e. p) (λ e. absurd (omega arith))
+read-print : (s : List ℕ) (m : Minute) → date_by_digits s ≡ Ok m → PrintIs m s
+read-print s =
+    digits-give (λ r. (m : Minute) → r ≡ Ok m → PrintIs m s) s
+    (λ p m e.
+    let same : minute_of (date_in s) ≡ m = cc in
+    rw same at p)
+    (λ m e. absurd (cc))
 
 no-print : (s : List ℕ) → ((m : Minute) → PrintIs m s → ⊥) → date_by_digits s ≡ no_minute
 no-print s none = digits-give (λ r. r ≡ no_minute) s (λ p. absurd (none _ p)) refl
@@ -283,28 +288,21 @@ module _ (s : List ℕ) where
   unfolding date_by_digits pick
   other_length ne = sym (by_digits s ∙ rw (ne_eqb (length s) 16 ne))
 
-  module _ (n : length s ≡ 16) {ok : Bool} (asked : ok ≡ has_date_form s) where
-    by_form : pick ok (minute_read (date_in s)) no_minute ≡ date_read s
-    unfolding date_by_digits pick
-    by_form = rw asked (sym (by_digits s ∙ rw (eq-eqb (length s) 16 n)))
-
-    pub other-form : ok ≡ false → no_minute ≡ date_read s
-    unfolding pick
-    other-form t = rw t at by_form
-
-    pub right-form : ok ≡ true → minute_read (date_in s) ≡ date_read s
-    unfolding pick
-    right-form t = rw t at by_form
+  pub by_form : length s ≡ 16 → pick (has_date_form s) (minute_read (date_in s)) no_minute ≡ date_read s
+  unfolding date_by_digits pick
+  by_form n = sym (by_digits s ∙ rw (eq-eqb (length s) 16 n))
 
 -- the claims
-pub text-printed : (s : List ℕ) → (date_read s).number ≡ 0 → PrintIs (date_read s).minute s
+pub text-printed : (s : List ℕ) (m : Minute) → date_read s ≡ Ok m → PrintIs m s
 text-printed s = rw (by_digits s) (read-print s)
 
-pub minute-back : (m : Minute) → m.0 ≤ last_minute → date_read (print_of m) ≡ read_minute m.0
+pub minute-back : (m : Minute) → m.0 ≤ last_minute → date_read (print_of m) ≡ Ok m
 minute-back m l = by_digits (print_of m) ∙ print-read m l
 
 pub prints-apart : (m n : Minute) → m.0 ≤ last_minute → n.0 ≤ last_minute → print_of m ≡ print_of n → m ≡ n
-prints-apart m n l k e = ap (λ (r : DateRead). r.minute) (sym (minute-back m l) ∙ ap date_read e ∙ minute-back n k)
+prints-apart m n l k e =
+    let same = sym (minute-back m l) ∙ ap date_read e ∙ minute-back n k in
+    cc
 
 pub refused : (s : List ℕ) → ((m : Minute) → PrintIs m s → ⊥) → date_read s ≡ no_minute
 refused s none = by_digits s ∙ no-print s none
@@ -312,5 +310,18 @@ refused s none = by_digits s ∙ no-print s none
 pub refused-only : (s : List ℕ) → date_read s ≡ no_minute → (m : Minute) → PrintIs m s → ⊥
 refused-only s e m p =
     let read = ap date_read (sym p.printed_back) ∙ minute-back m p.in_range in
-    let number : ◌≡◌ {A = ℕ} 23 0 = ap (λ (r : DateRead). r.number) (sym e ∙ read) in
-    absurd (omega (arith, number))
+    let wrong : no_minute ≡ Ok m = sym e ∙ read in
+    cc
+
+-- a print stands at the start of a text that has room for it
+pub date-there : (m : Minute) (text date : List ℕ) → print_answer m ≡ Ok date → 16 ≤ length text → date ++ drop 16 text ≡ date_put m text
+unfolding pick put date_text
+date-there m text date e l = by-case (is_time m) refl where
+  by-case : (t : Bool) → is_time m ≡ t → date ++ drop 16 text ≡ date_put m text
+  by-case true t =
+      let printed : print_of m ≡ date = (let ok = rw t at e in cc) in
+      let room = le-leb 16 (length text) l in
+      rw (t, room, ← printed) (sym (sets-eq (print_of m) text 0 (rw zero-add l)))
+  by-case false t =
+      let no = rw t at e in
+      absurd (cc)

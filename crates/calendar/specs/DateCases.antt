@@ -2,7 +2,8 @@
 use Rattle.std.specs.Prelude.{ℕ, ◌≡◌, List, [], ◌∷◌, ◌++◌, replicate}
 use Prim.Native.String.{String}
 use Rattle.fields.specs.Ascii.{ascii}
-use Rattle.calendar.specs.Reading.{date_read, put_answer, date_put}
+use Rattle.calendar.specs.Refusals.{answer_number}
+use Rattle.calendar.specs.Reading.{read_minute, date_read, put_answer, date_put}
 
 -- a text and the minute that it gives
 pub record TypedDate : Type 0 where
@@ -114,18 +115,18 @@ texts_refused =
 
 abbrev pub AreRead : List TypedDate → Type 0
 AreRead [] = Unit {0}
-AreRead (d ∷ ds) = (date_read (ascii d.text) ≡ record { number = 0; minute = record { 0 = d.minute } }) × AreRead ds
+AreRead (d ∷ ds) = (date_read (ascii d.text) ≡ read_minute d.minute) × AreRead ds
 
 abbrev pub AreRefused : List String → Type 0
 AreRefused [] = Unit {0}
-AreRefused (text ∷ texts) = (date_read (ascii text) ≡ record { number = 23; minute = record { 0 = 0 } }) × AreRefused texts
+AreRefused (text ∷ texts) = (answer_number (date_read (ascii text)) ≡ 23) × AreRefused texts
 
 -- A lent text of n bytes 7 that a date is printed into: which number, and what it holds then.
 abbrev pub lent : ℕ → List ℕ
 lent n = replicate n 7
 
 abbrev pub answered : ℕ → ℕ → ℕ
-answered m n = put_answer (record { 0 = m }) (lent n)
+answered m n = answer_number (put_answer (record { 0 = m }) (lent n))
 
 abbrev pub left : ℕ → ℕ → List ℕ
 left m n = date_put (record { 0 = m }) (lent n)

@@ -1,10 +1,12 @@
 -- A date read by its digits, as code goes, without a search. `dates_are_read_by_their_digits` says that it is what `date_read` gives, so
 -- that nothing here has to be believed.
-use Rattle.std.specs.Prelude.{ℕ, ◌+◌, ◌-◌, ◌*◌, Bool, ◌&&◌, List, [], ◌∷◌, eqb, leb, ltb, length}
+use Rattle.std.specs.Prelude.{ℕ, ◌+◌, ◌-◌, ◌*◌, Bool, ◌&&◌, List, [], ◌∷◌, eqb, leb, ltb, length, Result, Ok}
+use Rattle.std.specs.List.{list_all}
 use Rattle.fields.specs.Fields.{u8_at}
 use Rattle.fields.specs.Lists.{pick, every}
+use Rattle.quantities.specs.declared.Minute.{Minute}
 use Rattle.calendar.specs.declared.Date.{Date}
-use Rattle.calendar.specs.declared.DateRead.{DateRead}
+use Rattle.calendar.specs.declared.DateError.{DateError}
 use Rattle.calendar.specs.Calendar.{days_in, minute_of}
 use Rattle.calendar.specs.Reading.{no_minute}
 
@@ -16,19 +18,20 @@ digit_value c = pick (ltb c 48) (c + 208) (c - 48)
 abbrev pub two_digits : List ℕ → ℕ → ℕ
 two_digits s at = 10 * digit_value (u8_at s at) + digit_value (u8_at s (at + 1))
 
--- The characters that every date of 2000 to 2049 has, `20..-..-.. ..:..`, and a digit at the end of each number: the one before it
--- is a digit too where the number is in range.
-abbrev pub year_form : List ℕ → List Bool
-year_form s = eqb (u8_at s 0) 50 ∷ eqb (u8_at s 1) 48 ∷ leb (digit_value (u8_at s 3)) 9 ∷ eqb (u8_at s 4) 45 ∷ []
+abbrev pub is_digit : ℕ → Bool
+is_digit c = leb 48 c && leb c 57
 
-abbrev pub day_form : List ℕ → List Bool
-day_form s = leb (digit_value (u8_at s 6)) 9 ∷ eqb (u8_at s 7) 45 ∷ leb (digit_value (u8_at s 9)) 9 ∷ eqb (u8_at s 10) 32 ∷ []
+-- the characters that every date of 2000 to 2049 has, `20..-..-.. ..:..`
+abbrev pub fixed_form : List ℕ → List Bool
+fixed_form s =
+    eqb (u8_at s 0) 50 ∷ eqb (u8_at s 1) 48 ∷ eqb (u8_at s 4) 45 ∷ eqb (u8_at s 7) 45 ∷ eqb (u8_at s 10) 32 ∷ eqb (u8_at s 13) 58 ∷ []
 
-abbrev pub time_form : List ℕ → List Bool
-time_form s = leb (digit_value (u8_at s 12)) 9 ∷ eqb (u8_at s 13) 58 ∷ leb (digit_value (u8_at s 15)) 9 ∷ []
+-- The last digit of each number. The one before it is a digit too where the number is in range.
+abbrev pub last_digits : List ℕ → List ℕ
+last_digits s = u8_at s 3 ∷ u8_at s 6 ∷ u8_at s 9 ∷ u8_at s 12 ∷ u8_at s 15 ∷ []
 
-unfoldable pub has_date_form : List ℕ → Bool
-has_date_form s = every (year_form s) && every (day_form s) && every (time_form s)
+abbrev pub has_date_form : List ℕ → Bool
+has_date_form s = every (fixed_form s) && list_all is_digit (last_digits s)
 
 unfoldable pub date_in : List ℕ → Date
 date_in s = record {
@@ -47,13 +50,13 @@ is_month d = leb 2000 d.year && leb d.year 2049 && leb 1 d.month && leb d.month 
 abbrev pub is_day_and_minute : Date → ℕ → Bool
 is_day_and_minute d days = leb 1 d.day && leb d.day days && ltb d.hour 24 && ltb d.minute 60
 
-unfoldable pub minute_in_month : Date → DateRead
+abbrev pub minute_in_month : Date → Result Minute DateError
 minute_in_month d =
-    pick (is_day_and_minute d (days_in d.year d.month)) (record { number = 0; minute = minute_of d }) no_minute
+    pick (is_day_and_minute d (days_in d.year d.month)) (Ok (minute_of d)) no_minute
 
 -- the minute of a date of the fifty years, and 23 for what is none
-unfoldable pub minute_read : Date → DateRead
+abbrev pub minute_read : Date → Result Minute DateError
 minute_read d = pick (is_month d) (minute_in_month d) no_minute
 
-unfoldable pub date_by_digits : List ℕ → DateRead
+unfoldable pub date_by_digits : List ℕ → Result Minute DateError
 date_by_digits s = pick (eqb (length s) 16) (pick (has_date_form s) (minute_read (date_in s)) no_minute) no_minute

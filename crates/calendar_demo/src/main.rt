@@ -4,6 +4,7 @@
 
 mod typed;
 
+use calendar::Date;
 use quantities::Minute;
 use std::io;
 use std::io::Print;
@@ -17,36 +18,32 @@ fn main(rt: HostRuntime) -> io::Result<()> {
 
 fn print_month_bounds(rt: &impl Print) -> io::Result<()> {
     print_line(rt, 0)?;
-    let mut day: u32 = 1;
-    while day < 18263 {
-        let date = calendar::date_of(Minute(day * 1440));
-        if date.day == 1 {
+    for day in 1..18263 {
+        if Date::from(Minute(day * 1440)).day == 1 {
             print_line(rt, day * 1440 - 1)?;
             print_line(rt, day * 1440)?;
         }
-        day += 1;
     }
     print_line(rt, 26298719)
 }
 
 fn print_between(rt: &impl Print) -> io::Result<()> {
-    let mut minute: u32 = 12345;
-    while minute < 26298720 {
-        print_line(rt, minute)?;
-        minute += 77777;
+    for step in 0..338 {
+        print_line(rt, 12345 + step * 77777)?;
     }
     Ok(())
 }
 
 fn print_line(rt: &impl Print, minute: u32) -> io::Result<()> {
-    let mut text = [0u8; 16];
-    let answer = calendar::print_date(Minute(minute), &mut text);
-    rt.print(minute)?;
-    rt.write_all(b" ")?;
-    if answer == 0 {
-        rt.write_all(&text)?;
-    } else {
-        rt.print(answer)?;
+    print!(rt; "{minute} ")?;
+    print_date(rt, Minute(minute))
+}
+
+// The date, or the number of its refusal.
+fn print_date(rt: &impl Print, minute: Minute) -> io::Result<()> {
+    match calendar::print_date(minute) {
+        Ok(text) => rt.write_all(&text)?,
+        Err(error) => rt.print(u8::from(error))?,
     }
     rt.write_all(b"\n")
 }

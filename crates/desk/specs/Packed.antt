@@ -1,6 +1,8 @@
 -- An answer in one word, a remark's number and source, and a date's number and minute, as the C interface gives them.
-use Rattle.std.specs.Prelude.{ℕ, ◌+◌, ◌*◌, List, length, Option, Some, None}
-use Rattle.calendar.specs.declared.DateRead.{DateRead}
+use Rattle.std.specs.Prelude.{ℕ, ◌+◌, ◌*◌, List, length, Option, Some, None, Result, Ok, Err}
+use Rattle.quantities.specs.declared.Minute.{Minute}
+use Rattle.calendar.specs.declared.DateError.{DateError}
+use Rattle.calendar.specs.Refusals.{number_of}
 use Rattle.report.specs.declared.RemarkPlace.{RemarkPlace}
 use Rattle.report.specs.declared.RemarkPlace.TheVariants.{Standing, InReport}
 use Rattle.rules.specs.declared.Answer.{Answer}
@@ -26,6 +28,7 @@ remark_length (Some Standing) standing = length standing
 remark_length (Some (InReport start n)) standing = n
 remark_length None standing = 0
 
--- the number in the low half, the minute in the high one
-abbrev pub packed_date : DateRead → ℕ
-packed_date d = d.number + 4294967296 * d.minute.0
+-- the number in the low half, the minute in the high one; beside a refusal's number the minute is 0
+abbrev pub packed_date : Result Minute DateError → ℕ
+packed_date (Ok m) = 4294967296 * m.0
+packed_date (Err e) = number_of e

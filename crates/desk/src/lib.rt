@@ -9,6 +9,7 @@ ghost use Rattle.rules.specs.Judge.{told, no_to, judge as judged};
 ghost use Rattle.rules.specs.Desk.{set_up, question3, answer_to};
 ghost use Rattle.rules.specs.Block.{unit_head};
 ghost use Rattle.rules.specs.Whole.{block_whole};
+ghost use Rattle.calendar.specs.Refusals.{answer_number};
 ghost use Rattle.calendar.specs.Reading.{date_read, put_answer, date_put};
 ghost use Rattle.desk.specs.Packed.{packed, packed_remark, remark_start, remark_length, packed_date};
 
@@ -134,18 +135,23 @@ pub fn desk_remark(report: &[u8], standing: &[u8], place: &mut u64, length: &mut
     number
 }
 
-// For C: the number, and 2^32 times the minute.
+// For C: 2^32 times the minute, or 23.
 pub fn desk_read_date(text: &[u8]) -> u64
     ensures { result ≡ packed_date (date_read text.now) }
 {
-    let read = calendar::read_date(text);
-    (read.number as u64) + 4294967296 * (read.minute.0 as u64)
+    match calendar::read_date(text) {
+        Ok(minute) => 4294967296 * u64::from(minute.0),
+        Err(error) => u64::from(u8::from(error)),
+    }
 }
 
 // For C: 0, 22 or 43.
 pub fn desk_print_date(minute: u32, text: &mut [u8]) -> u32
-    ensures value { result ≡ put_answer (record { 0 = minute }) text.old }
+    ensures value { result ≡ answer_number (put_answer (record { 0 = minute }) text.old) }
     ensures text_after { text.new ≡ date_put (record { 0 = minute }) text.old }
 {
-    calendar::put_date(Minute(minute), text) as u32
+    match calendar::put_date(Minute(minute), text) {
+        Ok(()) => 0,
+        Err(error) => u32::from(u8::from(error)),
+    }
 }

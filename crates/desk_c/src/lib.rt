@@ -4,6 +4,7 @@
 ghost use Rattle.std.specs.Prelude.{◌≡◌};
 ghost use Rattle.report.specs.Remark.{remark_place};
 ghost use Rattle.rules.specs.Desk.{set_up, answer_to};
+ghost use Rattle.calendar.specs.Refusals.{answer_number};
 ghost use Rattle.calendar.specs.Reading.{date_read, put_answer, date_put};
 ghost use Rattle.desk.specs.Packed.{packed, packed_remark, remark_start, remark_length, packed_date};
 
@@ -40,7 +41,7 @@ pub extern "C" fn desk_remark(
     desk::desk_remark(report, standing, place, length)
 }
 
-// The number, and 2^32 times the minute.
+// 2^32 times the minute, or 23.
 #[unsafe(no_mangle)]
 pub extern "C" fn desk_read_date(text: &[u8]) -> u64
     ensures { result ≡ packed_date (date_read text.now) }
@@ -51,7 +52,7 @@ pub extern "C" fn desk_read_date(text: &[u8]) -> u64
 // 0, 22 or 43.
 #[unsafe(no_mangle)]
 pub extern "C" fn desk_print_date(minute: u32, text: &mut [u8]) -> u32
-    ensures value { result ≡ put_answer (record { 0 = minute }) text.old }
+    ensures value { result ≡ answer_number (put_answer (record { 0 = minute }) text.old) }
     ensures text_after { text.new ≡ date_put (record { 0 = minute }) text.old }
 {
     desk::desk_print_date(minute, text)

@@ -1,24 +1,23 @@
 -- Texts put one after the other, and numbers in decimal. Assumes nothing.
 use Prim.Native.Nat.{ℕ, zero, suc, ◌+◌, ◌*◌, ◌/◌, ◌≤◌, ◌<◌}
 use mathlib.Core.Path.{◌≡◌, refl, sym, ◌∙◌}
-use mathlib.Core.Bool.{Bool, true, false, not, ◌&&◌}
+use mathlib.Core.Bool.{Bool, true, false}
 use mathlib.Core.List.{List, [], ◌∷◌, ◌++◌, append_assoc}
 use native.Mathlib.Nat.{zero-add}
 use native.Mathlib.Omega.{arith}
 use lib.Dec.{ltb, eqb}
-use lib.ListN.{length, replicate, length-append}
+use lib.ListN.{length, length-append}
 use borrow.Author.Tests.{lt-ltb, le-ltb}
 use Rattle.fields.specs.Lists.{pick, put}
-use Rattle.fields.proofs.Bools.{and_right, pick-elim}
+use Rattle.fields.proofs.Bools.{pick-elim}
 use Rattle.fields.proofs.Slices.{put-append}
 use Rattle.quantities.specs.declared.Minute.{Minute}
-use Rattle.quantities.specs.Quantities.{is_time}
-use Rattle.calendar.specs.Calendar.{digit, date_of, date_text, printed}
+use Rattle.calendar.specs.Calendar.{digit}
 use Rattle.report.specs.Report.{head_of}
 use Rattle.rules.specs.declared.Answer.{Answer}
 use Rattle.log_lines.specs.declared.Totals.{Totals}
 use Rattle.fields.specs.Ascii.{ascii}
-use Rattle.log_lines.specs.Log.{decimal_before, decimal, space, line_feed, hyphen, fault_line, set_up_line, unit_text, stamp_text, number_column}
+use Rattle.log_lines.specs.Log.{decimal_before, decimal, space, line_feed, fault_line, set_up_line, unit_text, stamp_text, number_column}
 use Rattle.log_lines.specs.Log.{line_text, totals_line}
 use Rattle.log_lines.specs.Run.{most_counted}
 
@@ -108,21 +107,6 @@ pub unit-there : (here there : List ℕ) (at end number unit : ℕ) → eqb numb
     → Put here at (unit_text number unit ++ space) there end
 unfolding unit_text pick
 unit-there here there at end number unit e p = rw e p
-
-module _ (here : List ℕ) (at number : ℕ) (stamp : Minute) {t : Bool} (test : t ≡ (not (eqb number 2) && is_time stamp)) where
-  pub stamp-missing : (there : List ℕ) (end : ℕ) → t ≡ false → Put here at hyphen there end
-      → Put here at (stamp_text number stamp) there end
-  unfolding stamp_text pick
-  stamp-missing there end e p = rw (sym test ∙ e) p
-
-  pub stamp-there : (there date : List ℕ) (end : ℕ) → t ≡ true → date ≡ printed (replicate 16 0) stamp
-      → Put here at date there end → Put here at (stamp_text number stamp) there end
-  unfolding stamp_text pick
-  stamp-there there date end e d p =
-      let both : (not (eqb number 2) && is_time stamp) ≡ true = sym test ∙ e in
-      let time : is_time stamp ≡ true = and_right (not (eqb number 2)) (is_time stamp) both in
-      let same : date ≡ date_text (date_of stamp) = d ∙ rw time in
-      rw (both, ← same) p
 
 pub line-text-put : (line : ℕ) (s : List ℕ) (a : Answer) (unit : ℕ) (stamp : Minute) (here t₁ t₂ t₃ t₄ t₅ t₆ : List ℕ)
     (e₁ e₂ e₃ e₄ e₅ e₆ : ℕ) → unit ≡ (head_of s).unit → stamp ≡ (head_of s).stamp → Put here 0 (number_column line) t₁ e₁

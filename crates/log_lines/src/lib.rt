@@ -97,18 +97,16 @@ fn put_unit(text: &mut [u8], at: usize, number: u8, unit: u32) -> usize
 }
 
 // The date, or "-".
+#[tactic(auto, unfolding(crate::specs::Log::stamp_text, fields::specs::Lists::pick))]
 fn put_stamp(text: &mut [u8], at: usize, number: u8, stamp: Minute) -> usize
     requires { at ≤ 128 }
     ensures upper_bound { result ≤ at + 16 }
     ensures value { result ≡ at + length (stamp_text number stamp) }
     ensures text_after { text.new ≡ put text.old at (stamp_text number stamp) }
 {
-    let mut date = [0u8; 16];
-    calendar::print_date(stamp, &mut date);
-    if (number != 2) & quantities::is_time(stamp) {
-        put_text(text, at, &date)
-    } else {
-        put_text(text, at, &[b'-'])
+    match calendar::print_date(stamp) {
+        Ok(date) if number != 2 => put_text(text, at, &date),
+        _ => put_text(text, at, b"-"),
     }
 }
 

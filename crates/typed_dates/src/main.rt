@@ -2,164 +2,128 @@
 // where it is a number without zeros in front, and a date else.
 #![tactic(auto)]
 
-ghost use Rattle.std.specs.Prelude.{◌≡◌, length};
-
+use calendar::DateError;
 use quantities::Minute;
 use std::io;
-use std::io::{Eprint, Print, Read};
+use std::io::{Print, Read};
 
-// What was read of a line: its length, counted to 17, and its number, counted no further than past the last minute, if it is one;
-// and whether a write has failed.
+// What was read of a line: its first sixteen bytes, its length, counted to 17, and its number, if it is one.
 #[derive(Clone, Copy)]
 struct Line {
+    text: [u8; 16],
     length: usize,
-    number: u32,
-    is_number: bool,
-    failed: bool,
+    number: Option<u32>,
+}
+
+// What ends the answers before the input does.
+enum Failure {
+    Unread(io::Error),
+    Unwritten(io::Error),
 }
 
 fn main(rt: HostRuntime) {
-    let mut text = [0u8; 16];
-    let mut window = [0u8; 4096];
-    answer_input(&rt, &mut rt.stdin(), &mut window, &mut text);
+    match answer_input(&rt, &mut rt.stdin()) {
+        Ok(()) => {}
+        Err(Failure::Unread(error)) => {
+            streams::fail(&rt, "typed_dates: standard input can't be read", &error);
+        }
+        Err(Failure::Unwritten(error)) => {
+            streams::fail(&rt, "typed_dates: standard output can't be written", &error);
+        }
+    }
 }
 
 // A proved loop has to end, so it counts the turns that are left, more than any input needs. After a failure nothing is answered.
-fn answer_input<R: Print + Eprint + Alloc, I: Read>(
-    rt: &R,
-    from: &mut I,
-    window: &mut [u8],
-    text: &mut [u8],
-)
-    requires { length text.old ≡ 16 }
-{
-    let mut line = at_start(false);
-    let mut ended = false;
-    let mut turns = u64::MAX;
-    while turns > 0 && !ended {
-        turns -= 1;
-        let input = streams::read_once(from, window, turns == 0);
+fn answer_input<R: Print, I: Read>(rt: &R, from: &mut I) -> Result<(), Failure> {
+    let mut window = [0u8; 4096];
+    let mut line = Line::EMPTY;
+    for left in (0..u64::MAX).rev() {
+        let input = streams::read_once(from, &mut window, left == 0);
         if let Some(error) = input.failed {
-            streams::fail(rt, "typed_dates: standard input can't be read", &error);
-            return;
+            return Err(Failure::Unread(error));
         }
-        let got = input.length;
-        line = answer_lines(rt, &window[..got], line, text);
-        ended = input.ended | line.failed;
+        answer_lines(rt, &window[..input.length], &mut line).map_err(Failure::Unwritten)?;
+        if input.ended {
+            break;
+        }
     }
-    if (line.length > 0) & !line.failed {
-        answer(rt, line, text);
+    if line.length > 0 {
+        answer(rt, line).map_err(Failure::Unwritten)?;
     }
+    Ok(())
 }
 
-fn at_start(failed: bool) -> Line
-    ensures { result.number ≡ 0 }
-{
-    Line {
-        length: 0,
-        number: 0,
-        is_number: false,
-        failed,
-    }
-}
-
-// Answers the lines that end in these bytes; the line that is left.
-fn answer_lines<R: Print + Eprint + Alloc>(
-    rt: &R,
-    bytes: &[u8],
-    before: Line,
-    text: &mut [u8],
-) -> Line
-    requires { length text.old ≡ 16 }
-{
-    let mut line = before;
-    for j in 0..bytes.len() {
-        line = with_byte(rt, line, bytes[j], text);
-    }
-    line
-}
-
-// A line feed has the line answered; every other byte is one more of it. After a failed write nothing is.
-fn with_byte<R: Print + Eprint + Alloc>(rt: &R, line: Line, c: u8, text: &mut [u8]) -> Line
-    requires { length text.old ≡ 16 }
-{
-    if line.failed {
-        return line;
-    }
-    if c == b'\n' {
-        return at_start(!answer(rt, line, text));
-    }
-    fields::put_u8(text, line.length, c);
-    longer(line, c)
-}
-
-fn longer(line: Line, c: u8) -> Line {
-    let is_digit = (48 <= c) & (c <= 57);
-    let goes_on = (line.length == 0) | (line.is_number & (line.number != 0));
-    Line {
-        length: if line.length < 17 {
-            line.length + 1
+// Answers the lines that end in these bytes, and begins the next.
+fn answer_lines<R: Print>(rt: &R, bytes: &[u8], line: &mut Line) -> io::Result<()> {
+    for &c in bytes {
+        if c == b'\n' {
+            answer(rt, *line)?;
+            *line = Line::EMPTY;
         } else {
-            17
-        },
-        number: with_digit(line.number, c),
-        is_number: goes_on & is_digit,
-        failed: line.failed,
+            line.push(c);
+        }
+    }
+    Ok(())
+}
+
+impl Line {
+    const EMPTY: Line = Line {
+        text: [0; 16],
+        length: 0,
+        number: None,
+    };
+
+    fn push(&mut self, c: u8) {
+        self.number = self.number_with(c);
+        if self.length < 16 {
+            self.text[self.length] = c;
+        }
+        self.length = self.length.saturating_add(1).min(17);
+    }
+
+    // The number with one more digit, where both are there. One too large for any minute stays so.
+    fn number_with(&self, c: u8) -> Option<u32> {
+        if !c.is_ascii_digit() {
+            return None;
+        }
+        let digit = u32::from(c - b'0');
+        if self.length == 0 {
+            return Some(digit);
+        }
+        let number = self.number.filter(|n| *n != 0)?;
+        Some(number.saturating_mul(10).saturating_add(digit))
+    }
+
+    fn minute(&self) -> Result<Minute, DateError> {
+        if self.length > 16 {
+            return Err(DateError::NoPrint);
+        }
+        calendar::read_date(&self.text[..self.length])
     }
 }
 
-// A number with one more digit, counted no further than past the last minute.
-fn with_digit(number: u32, c: u8) -> u32 {
-    if number > 26298719 {
-        return number;
+fn answer<R: Print>(rt: &R, line: Line) -> io::Result<()> {
+    match line.number {
+        Some(number) => print_date(rt, Minute(number)),
+        None => print_minute(rt, line),
     }
-    if c < 48 {
-        return number;
-    }
-    10 * number + ((c - 48) as u32)
 }
 
-fn answer<R: Print + Eprint + Alloc>(rt: &R, line: Line, text: &[u8]) -> bool
-    requires { length text.now ≡ 16 }
-{
-    if line.is_number {
-        return print_date(rt, line.number);
-    }
-    if line.length > 16 {
-        return print(rt, b"refused 23\n");
-    }
-    print_minute(rt, &text[..line.length])
-}
-
-fn print_date<R: Print + Eprint + Alloc>(rt: &R, minute: u32) -> bool {
+fn print_date<R: Print>(rt: &R, minute: Minute) -> io::Result<()> {
     let mut date = *b"................\n";
-    if calendar::put_date(Minute(minute), &mut date) == 0 {
-        print(rt, &date)
-    } else {
-        print(rt, b"refused 22\n")
+    match calendar::put_date(minute, &mut date) {
+        Ok(()) => rt.write_all(&date),
+        Err(error) => print_refusal(rt, error),
     }
 }
 
-fn print_minute<R: Print + Eprint + Alloc>(rt: &R, text: &[u8]) -> bool {
-    let read = calendar::read_date(text);
-    if read.number != 0 {
-        return print(rt, b"refused 23\n");
-    }
-    match rt.println(read.minute.0) {
-        Ok(()) => true,
-        Err(error) => say_unwritten(rt, &error),
+fn print_minute<R: Print>(rt: &R, line: Line) -> io::Result<()> {
+    match line.minute() {
+        Ok(minute) => rt.println(minute.0),
+        Err(error) => print_refusal(rt, error),
     }
 }
 
-// A write that fails is said.
-fn print<R: Print + Eprint + Alloc>(rt: &R, text: &[u8]) -> bool {
-    match rt.write_all(text) {
-        Ok(()) => true,
-        Err(error) => say_unwritten(rt, &error),
-    }
-}
-
-fn say_unwritten<R: Eprint + Alloc>(rt: &R, error: &io::Error) -> bool {
-    streams::fail(rt, "typed_dates: standard output can't be written", error);
-    false
+fn print_refusal<R: Print>(rt: &R, error: DateError) -> io::Result<()> {
+    println!(rt; "refused {}", u8::from(error))
 }

@@ -1,16 +1,16 @@
-use mathlib.Core.Path.{ap, ◌∙◌}
-use Rattle.calendar.specs.Digits.{minute_read}
-use Rattle.calendar.proofs.Reading.{other_length, other-form, right-form}
+use mathlib.Core.Path.{sym, ap, ◌∙◌}
+use Rattle.fields.proofs.Bools.{chosen, passed_over}
+use Rattle.calendar.specs.Digits.{has_date_form, date_in, minute_read}
+use Rattle.calendar.proofs.Reading.{by_form}
 use Rattle.calendar.proofs.read_date.Goals as goal
-
-pub returns-then-text-ne16 : goal.returns-then-text-ne16
-returns-then-text-ne16 c = c.no_minute.ensures ∙ other_length _ c.if-text-ne16.true
 
 pub returns-then-not-has_date_form : goal.returns-then-not-has_date_form
 returns-then-not-has_date_form c =
-    c.no_minute-then-not-has_date_form.ensures ∙ other-form _ c.if-text-ne16.false c.has_date_form.ensures (c.if-not-has_date_form.true)
+    let chunk = c.in-Ok.ensures.1 in
+    sym (passed_over _ _ (c.has_date_form.ensures ∙ ap has_date_form chunk.same) c.if-not-has_date_form.true) ∙ by_form _ chunk.long
 
 pub returns : goal.returns
 returns c =
-    c.minute_of.ensures ∙ ap minute_read c.date_in.ensures
-    ∙ right-form _ c.if-text-ne16.false c.has_date_form.ensures (c.if-not-has_date_form.false)
+    let chunk = c.in-Ok.ensures.1 in
+    c.try_from-2.ensures ∙ ap minute_read (c.date_in.ensures ∙ ap date_in chunk.same)
+    ∙ sym (chosen _ _ (c.has_date_form.ensures ∙ ap has_date_form chunk.same) c.if-not-has_date_form.false) ∙ by_form _ chunk.long

@@ -1,6 +1,0 @@
-use Rattle.fields.specs.Lists.{every, and_each}
-use Rattle.calendar.proofs.has_day_form.Goals as goal
-
-pub returns : goal.returns
-unfolding every and_each
-returns c = cc
