@@ -38,14 +38,17 @@ fn answer_input<R: Print + Eprint + Alloc, I: Read>(
     let mut turns = u64::MAX;
     while turns > 0 && !ended {
         turns -= 1;
-        let input = streams::read_once(from, window, turns == 0);
-        if let Some(error) = input.failed {
-            streams::fail(rt, "typed_dates: standard input can't be read", &error);
-            return;
+        match streams::read_once(from, window) {
+            Ok(Some(got)) => {
+                line = answer_lines(rt, &window[..got], line, text);
+                ended = line.failed;
+            }
+            Ok(None) => ended = true,
+            Err(error) => {
+                streams::fail(rt, "typed_dates: standard input can't be read", &error);
+                return;
+            }
         }
-        let got = input.length;
-        line = answer_lines(rt, &window[..got], line, text);
-        ended = input.ended | line.failed;
     }
     if (line.length > 0) & !line.failed {
         answer(rt, line, text);
