@@ -1,10 +1,11 @@
 -- Reports are the same however their input is cut. Assumes nothing.
 use Prim.Native.Nat.{ℕ, zero, suc, ◌+◌, ◌-◌, ◌≤◌, min}
-use mathlib.Core.Path.{◌≡◌, refl, sym}
+use mathlib.Core.Path.{◌≡◌, refl, sym, ◌∙◌}
 use mathlib.Core.Bool.{Bool, true, false}
 use mathlib.Core.List.{List, [], ◌∷◌, ◌++◌}
 use native.Mathlib.Nat.{zero-add}
 use native.Mathlib.Omega.{arith}
+use Rattle.std.proofs.Math.Nat.{min-eq_left}
 use lib.Dec.{leb}
 use lib.ListN.{length, take, drop, length-take}
 use lib.Seq.{drop-drop, take-take, take-nil, length-take-le}
@@ -47,20 +48,22 @@ pub record FirstHere (input : List ℕ) (w : ℕ) : Type 0 where
   pub bytes : length (first_report input) ≡ first_length input
 
 first-here : (input : List ℕ) (w : ℕ) → leb (stated_length (take w input)) (length (take w input)) ≡ true → FirstHere input w
-unfolding report_here first_length pick
+unfolding report_here
 first-here input w t =
     let most = leb-true (stated_length (take w input)) (length (take w input)) t in
     let short : length (take w input) ≡ min w (length input) = length-take w input in
     let least = stated-least (take w input) in
     let same : stated_length (take w input) ≡ stated_length input = same-stated input w (omega arith) in
     let all : leb (stated_length input) (length input) ≡ true = le-leb (stated_length input) (length input) (omega arith) in
+    let here : first_length (take w input) ≡ stated_length input = min-eq_left most ∙ same in
+    let whole : first_length input ≡ stated_length input = min-eq_left (omega arith) in
     let cut : stated_length input ≤ w = omega arith in
     record {
-      size = rw (t, all) same;
-      report = rw (t, all, same) (take-take (stated_length input) w input cut);
-      left = rw all (drop_of_take (stated_length input) w input);
+      size = here ∙ sym whole;
+      report = rw (here, whole) (take-take (stated_length input) w input cut);
+      left = rw whole (drop_of_take (stated_length input) w input);
       here = rw all;
-      bytes = rw all (length-take-le (stated_length input) input (omega arith));
+      bytes = rw whole (length-take-le (stated_length input) input (omega arith));
     }
 
 -- one report more before a cut

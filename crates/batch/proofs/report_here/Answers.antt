@@ -3,4 +3,4 @@ use Rattle.batch.proofs.report_here.Goals as goal
 
 pub returns : goal.returns
 unfolding report_here
-returns c = rw c.stated_length.ensures.value
+returns c = rw (c.stated_length.ensures.value, c.is_empty.ensures)
