@@ -6,8 +6,11 @@ use mathlib.Core.List.{List, [], ◌∷◌, ◌++◌, append-nil}
 use native.Mathlib.Nat.{zero-add}
 use native.Mathlib.Omega.{arith}
 use lib.ListN.{length, set, take, drop, length-drop, drop_of_length-le}
-use lib.Seq.{sets, length-take-le, take_all, drop-drop}
+use lib.Seq.{sets, length-take-le, drop-drop}
 use Rattle.std.proofs.Common.{add_assoc, add-zero}
+use Rattle.std.proofs.Math.Bool.{or_assoc, or-false}
+use Rattle.std.proofs.lemmas.Bool.{not-false, or_parts}
+use Rattle.std.proofs.lemmas.List.{take_rest}
 use Rattle.fields.specs.Lists.{pick, put}
 use Rattle.fields.proofs.Slices.{put-nothing, put-past, put-append}
 use Rattle.rules.specs.Desk.{answer_to, register_after}
@@ -32,12 +35,9 @@ put-dropped vs (x ∷ s) (suc at) = ap (λ (l : List ℕ). x ∷ l) (put-dropped
 abbrev pub lent : List ℕ → ℕ → List ℕ
 lent s at = take (length s - at) (drop at s)
 
-pub lent-all : (s : List ℕ) (at : ℕ) → lent s at ≡ drop at s
-lent-all s at = take_all (length s - at) (drop at s) (simp length-drop (omega arith))
-
 pub within-lent : (s : List ℕ) (at k : ℕ) → at ≤ length s → k ≤ length (lent s at) → at + k ≤ length s
 within-lent s at k h l =
-    let size : length (lent s at) ≡ length s - at = rw (lent-all s at) (length-drop at s) in
+    let size : length (lent s at) ≡ length s - at = rw (take_rest s at) (length-drop at s) in
     let m = rw size at l in
     omega arith
 
@@ -46,7 +46,7 @@ pub put-lent : (s vs : List ℕ) (at : ℕ) {t : List ℕ} → t ≡ put (lent s
     → take at s ++ (t ++ drop (length s - at) (drop at s)) ≡ put s at vs
 put-lent s vs at {t} e =
     rw (drop_of_length-le (drop at s) {i = length s - at} (simp length-drop (omega arith)), append-nil t)
-    (ap (λ (z : List ℕ). take at s ++ z) (rw (lent-all s at) at e) ∙ put-dropped vs s at)
+    (ap (λ (z : List ℕ). take at s ++ z) (rw (take_rest s at) at e) ∙ put-dropped vs s at)
 
 -- a batch before the one after it
 abbrev pub join : Batch → Batch → Batch
@@ -68,14 +68,6 @@ with_report b n l = record {
   ends = l.ends;
 }
 
-or-false : (t : Bool) → (t || false) ≡ t
-or-false true = refl
-or-false false = refl
-
-or-assoc : (s t u : Bool) → ((s || t) || u) ≡ (s || (t || u))
-or-assoc true t u = refl
-or-assoc false t u = refl
-
 join-first : (p : _) (r : Batch) → join (no_reports p) r ≡ r
 join-first p r = rw (zero-add r.taken, zero-add r.length)
 
@@ -83,7 +75,7 @@ join-last : (b : Batch) → join b (no_reports b.progress) ≡ b
 join-last b = rw (add-zero b.taken, add-zero b.length, or-false b.accepted, or-false b.ends)
 
 join-report : (b : Batch) (n : ℕ) (l : Logged) (r : Batch) → b.ends ≡ false → join (with_report b n l) r ≡ join b (before l n r)
-join-report b n l r e = rw (e, add_assoc b.taken n r.taken, add_assoc b.length l.length r.length, or-assoc b.accepted l.accepted r.accepted)
+join-report b n l r e = rw (e, add_assoc b.taken n r.taken, add_assoc b.length l.length r.length, or_assoc b.accepted l.accepted r.accepted)
 
 -- what of an input is still to be judged after a batch, where at most `turns` reports may follow it
 abbrev pub rest : List ℕ → Bool → Batch → List ℕ → ℕ → List (List ℕ)
@@ -135,11 +127,6 @@ module _ (so_far : Progress) (register text : List ℕ) where
             left = w.left;
           }
 
-neither : (s t : Bool) → (s || not t) ≡ false → (s ≡ false) × (t ≡ true)
-neither false true e = (refl, refl)
-neither false false e = absurd (cc e)
-neither true t e = absurd (cc e)
-
 none-picked : (s t : Bool) (others : List (List ℕ)) → (s || not t) ≡ true → (t ≡ false → others ≡ []) → pick s [] others ≡ []
 unfolding pick
 none-picked true t others e f = refl
@@ -167,7 +154,7 @@ module _ (input : List ℕ) (ended : Bool) (b : Batch) (register : List ℕ) whe
       → rest input ended b register turns ≡ []
   none-left turns {here} h e =
       none-picked b.ends here (reports_here turns register (drop b.taken input) ended) e
-      (λ f. none-here turns (sym (rw (lent-all input b.taken) at h) ∙ f))
+      (λ f. none-here turns (sym (rw (take_rest input b.taken) at h) ∙ f))
 
   first-left : (turns n : ℕ) → b.ends ≡ false → report_here (drop b.taken input) ended ≡ true
       → n ≡ first_length (drop b.taken input)
@@ -191,9 +178,10 @@ module _ (input : List ℕ) (ended : Bool) (b : Batch) (register : List ℕ) whe
         (take b.length text' ++ (lines ++ drop (length text' - b.length) (drop b.length text')))
         (rest input ended (with_report b n l) new turns)
     next-judged one after line =
-        let all = lent-all input b.taken in
-        let f = neither b.ends here e in
-        let left = first-left turns n f.0 (sym (rw all at h) ∙ f.1) (rw all at size) in
+        let all = take_rest input b.taken in
+        let f = or_parts b.ends (not here) e in
+        let begins : here ≡ true = not-false here f.1 in
+        let left = first-left turns n f.0 (sym (rw all at h) ∙ begins) (rw all at size) in
         let others = rest input ended (with_report b n (logged_after b.progress register s)) (answer_to register s).after turns in
         rw (one, after, put-lent text' (next_line b.progress register s) b.length line)
         (one-judged so_far first-register text ss b register text' n others s (length-take-le n (lent input b.taken) inside) f.0
