@@ -1,7 +1,7 @@
 -- The reports of an input, one after another, and their lines. Assumes nothing.
-use Prim.Native.Nat.{ℕ, zero, suc, ◌+◌, ◌-◌, ◌≤◌}
+use Prim.Native.Nat.{ℕ, zero, suc, ◌+◌, ◌-◌, ◌≤◌, ◌<◌}
 use mathlib.Core.Path.{◌≡◌, refl, ap, sym, ◌∙◌}
-use mathlib.Core.Bool.{Bool, true, false, not, ◌||◌}
+use mathlib.Core.Bool.{Bool, true, false, not, ◌&&◌, ◌||◌}
 use mathlib.Core.List.{List, [], ◌∷◌, ◌++◌, append-nil}
 use native.Mathlib.Nat.{zero-add}
 use native.Mathlib.Omega.{arith}
@@ -9,16 +9,43 @@ use lib.ListN.{length, set, take, drop, length-drop, drop_of_length-le}
 use lib.Seq.{sets, length-take-le, drop-drop}
 use Rattle.std.proofs.Common.{add_assoc, add-zero}
 use Rattle.std.proofs.Math.Bool.{or_assoc, or-false}
-use Rattle.std.proofs.lemmas.Bool.{not-false, or_parts}
+use Rattle.std.proofs.Math.Nat.{min-le_right, min-eq_left, min-eq_right}
+use Rattle.std.proofs.Math.Seq.{take-length}
+use borrow.Author.Tests.{le-leb, lt-leb}
+use lib.Dec.{eqb}
 use Rattle.std.proofs.lemmas.List.{take_rest}
 use Rattle.fields.specs.Lists.{pick, put}
 use Rattle.fields.proofs.Slices.{put-nothing, put-past, put-append}
 use Rattle.rules.specs.Desk.{answer_to, register_after}
 use Rattle.log_lines.specs.declared.Progress.{Progress}
 use Rattle.log_lines.specs.declared.Logged.{Logged}
-use Rattle.log_lines.specs.Run.{next_line, logged_after}
+use Rattle.log_lines.specs.Run.{stated_length, next_line, logged_after}
 use Rattle.batch.specs.declared.Batch.{Batch}
-use Rattle.batch.specs.Batch.{report_here, first_length, reports_here, batch_lines, no_reports, before, batch_of}
+use Rattle.batch.specs.Batch.{report_here, first_length, first_report, reports_here, batch_lines, no_reports, before, batch_of}
+
+module _ (input : List ℕ) (ended : Bool) {n : ℕ} (stated : n ≡ stated_length input) where
+  pub first-whole : n ≤ length input → (report_here input ended ≡ true) × (take n input ≡ first_report input)
+  unfolding report_here
+  first-whole h =
+      (rw (← stated, le-leb n (length input) h), rw (← stated) (ap (λ (k : ℕ). take k input) (sym (min-eq_left h))))
+
+  module _ (h : length input < n) {empty : Bool} (e : empty ≡ eqb (length input) 0) where
+    pub first-cut : (ended && not empty) ≡ true → (report_here input ended ≡ true) × (input ≡ first_report input)
+    unfolding report_here
+    first-cut f = (
+      rw (← stated, lt-leb n (length input) h, ← e, f),
+      sym (rw (← stated) (ap (λ (k : ℕ). take k input) (min-eq_right (omega arith)) ∙ take-length input)),
+    )
+
+    pub first-none : (ended && not empty) ≡ false → report_here input ended ≡ false
+    unfolding report_here
+    first-none f = rw (← stated, lt-leb n (length input) h, ← e, f)
+
+first-size : (input : List ℕ) {s : List ℕ} → s ≡ first_report input → length s ≡ first_length input
+first-size input e = ap length e ∙ length-take-le (first_length input) input (min-le_right (stated_length input) (length input))
+
+pub first-inside : (input : List ℕ) {s : List ℕ} → s ≡ first_report input → length s ≤ length input
+first-inside input e = rw (first-size input e) (min-le_right (stated_length input) (length input))
 
 -- what is put from `at` on leaves what lies before it
 pub put-dropped : (vs s : List ℕ) (at : ℕ) → take at s ++ put (drop at s) 0 vs ≡ put s at vs
@@ -111,27 +138,21 @@ module _ (so_far : Progress) (register text : List ℕ) where
           sym d.left,
         )
 
-    -- the next report, of n bytes, was judged
-    module _ (n : ℕ) (others : List (List ℕ)) (s : List ℕ) (size : length s ≡ n) where
-      pub one-judged : b.ends ≡ false → Left so_far register text ss b register' text' (s ∷ others)
-          → Left so_far register text ss (with_report b n (logged_after b.progress register' s)) (answer_to register' s).after
-          (put text' b.length (next_line b.progress register' s)) others
-      unfolding batch_of batch_lines register_after
-      one-judged e w =
-          let l = logged_after b.progress register' s in
-          let r = batch_of l.progress (answer_to register' s).after others in
-          let ls = batch_lines l.progress (answer_to register' s).after others in
-          record {
-            result = w.result ∙ rw size (sym (join-report b n l r e));
-            lines = w.lines ∙ put-append (next_line b.progress register' s) ls text' b.length;
-            left = w.left;
-          }
-
-none-picked : (s t : Bool) (others : List (List ℕ)) → (s || not t) ≡ true → (t ≡ false → others ≡ []) → pick s [] others ≡ []
-unfolding pick
-none-picked true t others e f = refl
-none-picked false false others e f = f refl
-none-picked false true others e f = absurd (cc e)
+    -- the next report was judged
+    pub one-judged : (others : List (List ℕ)) (s : List ℕ) → b.ends ≡ false
+        → Left so_far register text ss b register' text' (s ∷ others)
+        → Left so_far register text ss (with_report b (length s) (logged_after b.progress register' s)) (answer_to register' s).after
+        (put text' b.length (next_line b.progress register' s)) others
+    unfolding batch_of batch_lines register_after
+    one-judged others s e w =
+        let l = logged_after b.progress register' s in
+        let r = batch_of l.progress (answer_to register' s).after others in
+        let ls = batch_lines l.progress (answer_to register' s).after others in
+        record {
+          result = w.result ∙ sym (join-report b (length s) l r e);
+          lines = w.lines ∙ put-append (next_line b.progress register' s) ls text' b.length;
+          left = w.left;
+        }
 
 none-twice : (s : Bool) → pick {A = List (List ℕ)} s [] [] ≡ []
 unfolding pick
@@ -140,49 +161,38 @@ none-twice false = refl
 
 -- whether a report follows a batch, and which one it is
 module _ (input : List ℕ) (ended : Bool) (b : Batch) (register : List ℕ) where
-  none-here : (turns : ℕ) → report_here (drop b.taken input) ended ≡ false
-      → reports_here turns register (drop b.taken input) ended ≡ []
-  unfolding reports_here pick
-  none-here zero e = refl
-  none-here (suc turns) e = rw e
-
   pub no-turns-left : {turns : ℕ} → turns ≡ 0 → rest input ended b register turns ≡ []
   unfolding reports_here
   no-turns-left z = rw z (none-twice b.ends)
 
-  pub none-left : (turns : ℕ) {here : Bool} → here ≡ report_here (lent input b.taken) ended → (b.ends || not here) ≡ true
-      → rest input ended b register turns ≡ []
-  none-left turns {here} h e =
-      none-picked b.ends here (reports_here turns register (drop b.taken input) ended) e
-      (λ f. none-here turns (sym (rw (take_rest input b.taken) at h) ∙ f))
+  pub none-after-end : (turns : ℕ) → b.ends ≡ true → rest input ended b register turns ≡ []
+  unfolding pick
+  none-after-end turns e = rw e
 
-  first-left : (turns n : ℕ) → b.ends ≡ false → report_here (drop b.taken input) ended ≡ true
-      → n ≡ first_length (drop b.taken input)
-      → rest input ended b register (suc turns)
-      ≡ take n (drop b.taken input)
-      ∷ rest input ended (with_report b n (logged_after b.progress register (take n (drop b.taken input))))
-      (answer_to register (take n (drop b.taken input))).after turns
+  pub none-left : (turns : ℕ) → report_here (lent input b.taken) ended ≡ false → rest input ended b register turns ≡ []
   unfolding reports_here pick
-  first-left turns n e here size = rw (e, here, ← size, ← drop-drop n b.taken input)
+  none-left zero e = none-twice b.ends
+  none-left (suc turns) e = rw (rw (take_rest input b.taken) at e) (none-twice b.ends)
 
-  module _ (so_far : Progress) (first-register text text' : List ℕ) (ss : List (List ℕ)) (turns : ℕ)
-      (w : Left so_far first-register text ss b register text' (rest input ended b register (suc turns)))
-      {here : Bool} (h : here ≡ report_here (lent input b.taken) ended) (e : (b.ends || not here) ≡ false)
-      {n : ℕ} (size : n ≡ first_length (lent input b.taken)) (inside : n ≤ length (lent input b.taken)) where
-    abbrev pub s : List ℕ
-    s = take n (lent input b.taken)
+  first-left : (turns : ℕ) (s : List ℕ) → b.ends ≡ false → report_here (drop b.taken input) ended ≡ true
+      → s ≡ first_report (drop b.taken input)
+      → rest input ended b register (suc turns)
+      ≡ s ∷ rest input ended (with_report b (length s) (logged_after b.progress register s)) (answer_to register s).after turns
+  unfolding reports_here pick
+  first-left turns s e here is =
+      rw (e, here, ← is, ← first-size (drop b.taken input) is, ← drop-drop (length s) b.taken input)
 
-    pub next-judged : {l : Logged} {new lines : List ℕ} → l ≡ logged_after b.progress register s
-        → new ≡ (answer_to register s).after → lines ≡ put (lent text' b.length) 0 (next_line b.progress register s)
-        → Left so_far first-register text ss (with_report b n l) new
-        (take b.length text' ++ (lines ++ drop (length text' - b.length) (drop b.length text')))
-        (rest input ended (with_report b n l) new turns)
-    next-judged one after line =
-        let all = take_rest input b.taken in
-        let f = or_parts b.ends (not here) e in
-        let begins : here ≡ true = not-false here f.1 in
-        let left = first-left turns n f.0 (sym (rw all at h) ∙ begins) (rw all at size) in
-        let others = rest input ended (with_report b n (logged_after b.progress register s)) (answer_to register s).after turns in
-        rw (one, after, put-lent text' (next_line b.progress register s) b.length line)
-        (one-judged so_far first-register text ss b register text' n others s (length-take-le n (lent input b.taken) inside) f.0
-        (rw (all, ← left) w))
+  pub next-judged : (so_far : Progress) (first-register text text' : List ℕ) (ss : List (List ℕ)) (turns : ℕ) {s : List ℕ}
+      → b.ends ≡ false → report_here (lent input b.taken) ended ≡ true → s ≡ first_report (lent input b.taken)
+      → Left so_far first-register text ss b register text' (rest input ended b register (suc turns))
+      → {l : Logged} {new lines : List ℕ} → l ≡ logged_after b.progress register s → new ≡ (answer_to register s).after
+      → lines ≡ put (lent text' b.length) 0 (next_line b.progress register s)
+      → Left so_far first-register text ss (with_report b (length s) l) new
+      (take b.length text' ++ (lines ++ drop (length text' - b.length) (drop b.length text')))
+      (rest input ended (with_report b (length s) l) new turns)
+  next-judged so_far first-register text text' ss turns {s} e here is w one after line =
+      let all = take_rest input b.taken in
+      let left = first-left turns s e (rw all at here) (rw all at is) in
+      let others = rest input ended (with_report b (length s) (logged_after b.progress register s)) (answer_to register s).after turns in
+      rw (one, after, put-lent text' (next_line b.progress register s) b.length line)
+      (one-judged so_far first-register text ss b register text' others s e (rw (← left) w))

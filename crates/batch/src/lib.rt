@@ -1,10 +1,10 @@
 // Reports that came together are judged together: one write of the register serves all of them, and then their lines are printed.
 #![tactic(auto)]
 
-ghost use Rattle.std.specs.Prelude.{◌≡◌, ℕ, ◌+◌, ◌/◌, ◌≤◌, true, false, List, ◌++◌, length, take};
+ghost use Rattle.std.specs.Prelude.{◌≡◌, ℕ, ◌+◌, ◌/◌, ◌≤◌, true, false, List, ◌++◌, length, take, MatchOption};
 ghost use Rattle.rules.specs.Desk.{register_after};
 ghost use Rattle.fields.specs.Lists.{put};
-ghost use Rattle.batch.specs.Batch.{report_here, first_length, reports_here, batch_lines, no_reports, batch_of, after_cut};
+ghost use Rattle.batch.specs.Batch.{report_here, first_report, reports_here, batch_lines, no_reports, batch_of, after_cut};
 
 use log_lines::Progress;
 
@@ -22,17 +22,18 @@ pub struct Batch {
     pub ends: bool,
 }
 
-fn report_here(input: &[u8], ended: bool) -> bool
-    ensures { result ≡ report_here input.now ended }
+// The first report of an input, where it is here whole or the input has ended within it.
+fn first_report(input: &[u8], ended: bool) -> Option<&[u8]>
+    ensures { MatchOption result (report_here input.now ended ≡ false) (λ report. (report_here input.now ended ≡ true) × (report.now ≡ first_report input.now)) }
 {
-    (log_lines::stated_length(input) <= input.len()) | (ended & !input.is_empty())
-}
-
-fn first_length(input: &[u8]) -> usize
-    ensures upper_bound { result ≤ length input.now }
-    ensures value { result ≡ first_length input.now }
-{
-    log_lines::stated_length(input).min(input.len())
+    let length = log_lines::stated_length(input);
+    if length <= input.len() {
+        Some(&input[..length])
+    } else if ended & !input.is_empty() {
+        Some(input)
+    } else {
+        None
+    }
 }
 
 fn no_reports(so_far: Progress) -> Batch
@@ -62,16 +63,17 @@ pub fn log_batch(
 {
     let mut batch = no_reports(so_far);
     for _ in 0..text.len() / LINE_SIZE {
-        let left = &input[batch.taken..];
-        if batch.ends | !report_here(left, ended) {
+        if batch.ends {
             break;
         }
-        let n = first_length(left);
+        let Some(report) = first_report(&input[batch.taken..], ended) else {
+            break;
+        };
         let line = &mut text[batch.length..];
-        let logged = log_lines::log_report(register, &left[..n], batch.progress, line);
+        let logged = log_lines::log_report(register, report, batch.progress, line);
         batch = Batch {
             progress: logged.progress,
-            taken: batch.taken + n,
+            taken: batch.taken + report.len(),
             length: batch.length + logged.length,
             accepted: batch.accepted | logged.accepted,
             ends: logged.ends,
