@@ -1,30 +1,51 @@
--- The first report of an input, and those after it. Assumes nothing.
+-- The reports of an input, one after another, and their lines. Assumes nothing.
 use Prim.Native.Nat.{ℕ, zero, suc, ◌+◌, ◌-◌, ◌≤◌, ◌<◌}
 use mathlib.Core.Path.{◌≡◌, refl, ap, sym, ◌∙◌}
-use mathlib.Core.Bool.{Bool, true, false}
+use mathlib.Core.Bool.{Bool, true, false, not, ◌&&◌, ◌||◌}
 use mathlib.Core.List.{List, [], ◌∷◌, ◌++◌, append-nil}
 use native.Mathlib.Nat.{zero-add}
 use native.Mathlib.Omega.{arith}
 use lib.ListN.{length, set, take, drop, length-drop, drop_of_length-le}
-use lib.Seq.{sets, length-take-le, take_all}
+use lib.Seq.{sets, length-take-le, drop-drop}
+use Rattle.std.proofs.Common.{add_assoc, add-zero}
+use Rattle.std.proofs.Math.Bool.{or_assoc, or-false}
+use Rattle.std.proofs.Math.Nat.{min-le_right, min-eq_left, min-eq_right}
+use Rattle.std.proofs.Math.Seq.{take-length}
 use borrow.Author.Tests.{le-leb, lt-leb}
+use lib.Dec.{eqb}
+use Rattle.std.proofs.lemmas.List.{take_rest}
 use Rattle.fields.specs.Lists.{pick, put}
-use Rattle.fields.proofs.Slices.{put-length, put-nothing, put-past, put-append}
+use Rattle.fields.proofs.Slices.{put-nothing, put-past, put-append}
 use Rattle.rules.specs.Desk.{answer_to, register_after}
 use Rattle.log_lines.specs.declared.Progress.{Progress}
 use Rattle.log_lines.specs.declared.Logged.{Logged}
 use Rattle.log_lines.specs.Run.{stated_length, next_line, logged_after}
 use Rattle.batch.specs.declared.Batch.{Batch}
-use Rattle.batch.specs.Batch.{report_here, first_length, first_report, ends_run, reports_here, batch_lines, no_reports, before, batch_of}
+use Rattle.batch.specs.Batch.{report_here, first_length, first_report, reports_here, batch_lines, no_reports, before, batch_of}
 
-module _ (input : List ℕ) {n : ℕ} (stated : n ≡ stated_length input) where
-  pub first-whole : n ≤ length input → (n ≤ length input) × (n ≡ first_length input)
-  unfolding first_length pick
-  first-whole h = (h, rw (← stated, le-leb n (length input) h))
+module _ (input : List ℕ) (ended : Bool) {n : ℕ} (stated : n ≡ stated_length input) where
+  pub first-whole : n ≤ length input → (report_here input ended ≡ true) × (take n input ≡ first_report input)
+  unfolding report_here
+  first-whole h =
+      (rw (← stated, le-leb n (length input) h), rw (← stated) (ap (λ (k : ℕ). take k input) (sym (min-eq_left h))))
 
-  pub first-cut : length input < n → length input ≡ first_length input
-  unfolding first_length pick
-  first-cut h = rw (← stated, lt-leb n (length input) h)
+  module _ (h : length input < n) {empty : Bool} (e : empty ≡ eqb (length input) 0) where
+    pub first-cut : (ended && not empty) ≡ true → (report_here input ended ≡ true) × (input ≡ first_report input)
+    unfolding report_here
+    first-cut f = (
+      rw (← stated, lt-leb n (length input) h, ← e, f),
+      sym (rw (← stated) (ap (λ (k : ℕ). take k input) (min-eq_right (omega arith)) ∙ take-length input)),
+    )
+
+    pub first-none : (ended && not empty) ≡ false → report_here input ended ≡ false
+    unfolding report_here
+    first-none f = rw (← stated, lt-leb n (length input) h, ← e, f)
+
+first-size : (input : List ℕ) {s : List ℕ} → s ≡ first_report input → length s ≡ first_length input
+first-size input e = ap length e ∙ length-take-le (first_length input) input (min-le_right (stated_length input) (length input))
+
+pub first-inside : (input : List ℕ) {s : List ℕ} → s ≡ first_report input → length s ≤ length input
+first-inside input e = rw (first-size input e) (min-le_right (stated_length input) (length input))
 
 -- what is put from `at` on leaves what lies before it
 pub put-dropped : (vs s : List ℕ) (at : ℕ) → take at s ++ put (drop at s) 0 vs ≡ put s at vs
@@ -37,102 +58,141 @@ put-dropped vs (x ∷ s) (suc at) = ap (λ (l : List ℕ). x ∷ l) (put-dropped
     past_first [] z k = refl
     past_first (w ∷ ws) z k = past_first ws (set z k w) (suc k)
 
-put_next : (vs ws s : List ℕ) → put (put s 0 vs) (length vs) ws ≡ put s 0 (vs ++ ws)
-put_next vs ws s = sym (put-append vs ws s 0 ∙ ap (λ (k : ℕ). put (put s 0 vs) k ws) (zero-add (length vs)))
-
 -- what `&s[at..]` holds
 abbrev pub lent : List ℕ → ℕ → List ℕ
 lent s at = take (length s - at) (drop at s)
 
-lent-all : (s : List ℕ) (at : ℕ) → lent s at ≡ drop at s
-lent-all s at = take_all (length s - at) (drop at s) (simp length-drop (omega arith))
-
-pub lent_length : (s : List ℕ) (at : ℕ) → length (lent s at) ≡ length s - at
-lent_length s at = rw (lent-all s at) (length-drop at s)
-
 pub within-lent : (s : List ℕ) (at k : ℕ) → at ≤ length s → k ≤ length (lent s at) → at + k ≤ length s
-within-lent s at k h l = let m = rw (lent_length s at) at l in omega arith
+within-lent s at k h l =
+    let size : length (lent s at) ≡ length s - at = rw (take_rest s at) (length-drop at s) in
+    let m = rw size at l in
+    omega arith
 
-pub within-put : (s vs : List ℕ) {t : List ℕ} (at k : ℕ) → t ≡ put s 0 vs → at ≤ length s → k ≤ length (lent t at)
-    → at + k ≤ length s
-within-put s vs {t} at k e h l =
-    let same : length t ≡ length s = ap length e ∙ put-length s 0 vs in
-    rw same at (within-lent t at k (rw same h) l)
+-- what is put there is put from `at` on
+pub put-lent : (s vs : List ℕ) (at : ℕ) {t : List ℕ} → t ≡ put (lent s at) 0 vs
+    → take at s ++ (t ++ drop (length s - at) (drop at s)) ≡ put s at vs
+put-lent s vs at {t} e =
+    rw (drop_of_length-le (drop at s) {i = length s - at} (simp length-drop (omega arith)), append-nil t)
+    (ap (λ (z : List ℕ). take at s ++ z) (rw (take_rest s at) at e) ∙ put-dropped vs s at)
 
--- a callee left vs there
-lent-left : (s : List ℕ) (at : ℕ) (vs : List ℕ) → take at s ++ (vs ++ drop (length s - at) (drop at s)) ≡ take at s ++ vs
-lent-left s at vs =
-    rw (drop_of_length-le (drop at s) {i = length s - at} (simp length-drop (omega arith)), append-nil vs)
+-- a batch before the one after it
+abbrev pub join : Batch → Batch → Batch
+join b r = record {
+  progress = r.progress;
+  taken = b.taken + r.taken;
+  length = b.length + r.length;
+  accepted = b.accepted || r.accepted;
+  ends = b.ends || r.ends;
+}
 
--- what a step promises of the reports ss: its result, the text and the register afterwards
-pub record Done (so_far : Progress) (register text : List ℕ) (ss : List (List ℕ)) (r : Batch)
-    (register' text' : List ℕ) : Type 0 where
-  pub result : r ≡ batch_of so_far register ss
-  pub lines : text' ≡ put text 0 (batch_lines so_far register ss)
-  pub left : register' ≡ register_after register ss
+-- a batch, and then a report of n bytes
+abbrev pub with_report : Batch → ℕ → Logged → Batch
+with_report b n l = record {
+  progress = l.progress;
+  taken = b.taken + n;
+  length = b.length + l.length;
+  accepted = b.accepted || l.accepted;
+  ends = l.ends;
+}
 
-module _ (so_far : Progress) (register input : List ℕ) (ended : Bool) where
-  module _ {r : Batch} (result : r ≡ no_reports so_far) (text : List ℕ) where
-    none : (ss : List (List ℕ)) → ss ≡ [] → Done so_far register text ss r register text
+join-first : (p : _) (r : Batch) → join (no_reports p) r ≡ r
+join-first p r = rw (zero-add r.taken, zero-add r.length)
+
+join-last : (b : Batch) → join b (no_reports b.progress) ≡ b
+join-last b = rw (add-zero b.taken, add-zero b.length, or-false b.accepted, or-false b.ends)
+
+join-report : (b : Batch) (n : ℕ) (l : Logged) (r : Batch) → b.ends ≡ false → join (with_report b n l) r ≡ join b (before l n r)
+join-report b n l r e = rw (e, add_assoc b.taken n r.taken, add_assoc b.length l.length r.length, or_assoc b.accepted l.accepted r.accepted)
+
+-- what of an input is still to be judged after a batch, where at most `turns` reports may follow it
+abbrev pub rest : List ℕ → Bool → Batch → List ℕ → ℕ → List (List ℕ)
+rest input ended b register turns = pick b.ends [] (reports_here turns register (drop b.taken input) ended)
+
+-- a batch, with the register and the text after it, and what is still to be judged give what the reports ss give
+pub record Left (so_far : Progress) (register text : List ℕ) (ss : List (List ℕ)) (b : Batch) (register' text' : List ℕ)
+    (others : List (List ℕ)) : Type 0 where
+  pub result : batch_of so_far register ss ≡ join b (batch_of b.progress register' others)
+  pub lines : put text 0 (batch_lines so_far register ss) ≡ put text' b.length (batch_lines b.progress register' others)
+  pub left : register_after register ss ≡ register_after register' others
+
+module _ (so_far : Progress) (register text : List ℕ) where
+  pub none-judged : (input : List ℕ) (ended : Bool) (most : ℕ) →
+      Left so_far register text (reports_here most register input ended) (no_reports so_far) register text
+      (rest input ended (no_reports so_far) register most)
+  unfolding pick
+  none-judged input ended most = record {
+    result = sym (join-first so_far (batch_of so_far register (reports_here most register input ended)));
+    lines = refl;
+    left = refl;
+  }
+
+  module _ (ss : List (List ℕ)) (b : Batch) (register' text' : List ℕ) where
+    pub all-judged : {others : List (List ℕ)} → Left so_far register text ss b register' text' others → others ≡ []
+        → (b ≡ batch_of so_far register ss) × (text' ≡ put text 0 (batch_lines so_far register ss))
+        × (register' ≡ register_after register ss)
     unfolding batch_of batch_lines register_after
-    none ss e = record { result = result ∙ rw e; lines = rw e (sym (put-nothing text 0)); left = rw e }
+    all-judged w e =
+        let d = rw e at w in (
+          sym (d.result ∙ join-last b),
+          sym (d.lines ∙ put-nothing text' b.length),
+          sym d.left,
+        )
 
-    pub none-asked : {most : ℕ} → most ≡ 0 → Done so_far register text (reports_here most register input ended) r register text
-    unfolding reports_here
-    none-asked e = none _ (rw e)
-
-    pub none_here : {here : Bool} (most : ℕ) → here ≡ report_here input ended → here ≡ false
-        → Done so_far register text (reports_here most register input ended) r register text
-    unfolding reports_here pick
-    none_here zero e f = none _ refl
-    none_here (suc most) e f = none _ (rw (← e, f))
-
-  -- the first report, of n bytes, was logged
-  module _ (text : List ℕ) {n : ℕ} (size : n ≡ first_length input) (inside : n ≤ length input) {l : Logged}
-      (one : l ≡ logged_after so_far register (take n input)) {here : Bool} (asked : here ≡ report_here input ended)
-      (is-here : here ≡ true) {register' text' : List ℕ} (line : text' ≡ put text 0 (next_line so_far register (take n input)))
-      (left : register' ≡ (answer_to register (take n input)).after) where
-    first-is : first_report input ≡ take n input
-    first-is = rw (← size)
-
-    sized : length (take n input) ≡ n
-    sized = length-take-le n input inside
-
-    pub last_done : (most : ℕ) {r : Batch} → 0 < most → l.ends ≡ true → r ≡ before l n (no_reports l.progress)
-        → Done so_far register text (reports_here most register input ended) r register' text'
-    unfolding reports_here pick batch_of batch_lines register_after
-    last_done zero m e f = absurd (omega arith)
-    last_done (suc most) m e f =
-        let stop : ends_run register (first_report input) ≡ true = rw first-is (rw one at e) in
-        let only : reports_here (suc most) register input ended ≡ take n input ∷ [] = rw (← asked, is-here, stop, first-is) in
+    -- the next report was judged
+    pub one-judged : (others : List (List ℕ)) (s : List ℕ) → b.ends ≡ false
+        → Left so_far register text ss b register' text' (s ∷ others)
+        → Left so_far register text ss (with_report b (length s) (logged_after b.progress register' s)) (answer_to register' s).after
+        (put text' b.length (next_line b.progress register' s)) others
+    unfolding batch_of batch_lines register_after
+    one-judged others s e w =
+        let l = logged_after b.progress register' s in
+        let r = batch_of l.progress (answer_to register' s).after others in
+        let ls = batch_lines l.progress (answer_to register' s).after others in
         record {
-          result = f ∙ rw (only, one, sized);
-          lines = line ∙ rw (only, append-nil (next_line so_far register (take n input)));
-          left = left ∙ rw only;
+          result = w.result ∙ sym (join-report b (length s) l r e);
+          lines = w.lines ∙ put-append (next_line b.progress register' s) ls text' b.length;
+          left = w.left;
         }
 
-    pub more-done : (most : ℕ) {r rest : Batch} {register'' text'' : List ℕ} → 0 < most → l.ends ≡ false
-        → Done l.progress register' (lent text' l.length) (reports_here (most - 1) register'
-        (lent input n) ended) rest register'' text''
-        → r ≡ before l n rest → Done so_far register text (reports_here most register input ended) r register''
-        (take l.length text' ++ (text'' ++ drop (length text' - l.length) (drop l.length text')))
-    unfolding reports_here pick batch_of batch_lines register_after
-    more-done zero m e others f = absurd (omega arith)
-    more-done (suc most) {r} {rest} {register''} {text''} m e later f =
-        let k : suc most - 1 ≡ most = omega arith in
-        let others = rw (k, lent-all input n, lent-all text' l.length) at later in
-        let goes_on : ends_run register (first_report input) ≡ false = rw first-is (rw one at e) in
-        let first : reports_here (suc most) register input ended
-        ≡ take n input ∷ reports_here most register' (drop n input) ended = rw (← asked, is-here, goes_on, first-is, left, ← size) in
-        let here-line = next_line so_far register (take n input) in
-        let ls = batch_lines l.progress register' (reports_here most register' (drop n input) ended) in
-        let together : put text' l.length ls ≡ put text 0 (here-line ++ ls) =
-        ap (λ (x : Logged). put text' x.length ls) one ∙ ap (λ (z : List ℕ). put z (length here-line) ls) line
-        ∙ put_next here-line ls text in
-        record {
-          result = f ∙ rw (first, others.result, left, one, sized);
-          lines = lent-left text' l.length text'' ∙ ap (λ (z : List ℕ). take l.length text' ++ z) others.lines
-              ∙ put-dropped ls text' l.length ∙ together
-              ∙ rw (first, left, one);
-          left = others.left ∙ rw (first, left);
-        }
+none-twice : (s : Bool) → pick {A = List (List ℕ)} s [] [] ≡ []
+unfolding pick
+none-twice true = refl
+none-twice false = refl
+
+-- whether a report follows a batch, and which one it is
+module _ (input : List ℕ) (ended : Bool) (b : Batch) (register : List ℕ) where
+  pub no-turns-left : {turns : ℕ} → turns ≡ 0 → rest input ended b register turns ≡ []
+  unfolding reports_here
+  no-turns-left z = rw z (none-twice b.ends)
+
+  pub none-after-end : (turns : ℕ) → b.ends ≡ true → rest input ended b register turns ≡ []
+  unfolding pick
+  none-after-end turns e = rw e
+
+  pub none-left : (turns : ℕ) → report_here (lent input b.taken) ended ≡ false → rest input ended b register turns ≡ []
+  unfolding reports_here pick
+  none-left zero e = none-twice b.ends
+  none-left (suc turns) e = rw (rw (take_rest input b.taken) at e) (none-twice b.ends)
+
+  first-left : (turns : ℕ) (s : List ℕ) → b.ends ≡ false → report_here (drop b.taken input) ended ≡ true
+      → s ≡ first_report (drop b.taken input)
+      → rest input ended b register (suc turns)
+      ≡ s ∷ rest input ended (with_report b (length s) (logged_after b.progress register s)) (answer_to register s).after turns
+  unfolding reports_here pick
+  first-left turns s e here is =
+      rw (e, here, ← is, ← first-size (drop b.taken input) is, ← drop-drop (length s) b.taken input)
+
+  pub next-judged : (so_far : Progress) (first-register text text' : List ℕ) (ss : List (List ℕ)) (turns : ℕ) {s : List ℕ}
+      → b.ends ≡ false → report_here (lent input b.taken) ended ≡ true → s ≡ first_report (lent input b.taken)
+      → Left so_far first-register text ss b register text' (rest input ended b register (suc turns))
+      → {l : Logged} {new lines : List ℕ} → l ≡ logged_after b.progress register s → new ≡ (answer_to register s).after
+      → lines ≡ put (lent text' b.length) 0 (next_line b.progress register s)
+      → Left so_far first-register text ss (with_report b (length s) l) new
+      (take b.length text' ++ (lines ++ drop (length text' - b.length) (drop b.length text')))
+      (rest input ended (with_report b (length s) l) new turns)
+  next-judged so_far first-register text text' ss turns {s} e here is w one after line =
+      let all = take_rest input b.taken in
+      let left = first-left turns s e (rw all at here) (rw all at is) in
+      let others = rest input ended (with_report b (length s) (logged_after b.progress register s)) (answer_to register s).after turns in
+      rw (one, after, put-lent text' (next_line b.progress register s) b.length line)
+      (one-judged so_far first-register text ss b register text' others s e (rw (← left) w))

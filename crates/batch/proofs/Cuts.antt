@@ -1,13 +1,15 @@
 -- Reports are the same however their input is cut. Assumes nothing.
 use Prim.Native.Nat.{ℕ, zero, suc, ◌+◌, ◌-◌, ◌≤◌, min}
-use mathlib.Core.Path.{◌≡◌, refl, sym}
+use mathlib.Core.Path.{◌≡◌, refl, ap, sym, ◌∙◌}
 use mathlib.Core.Bool.{Bool, true, false}
 use mathlib.Core.List.{List, [], ◌∷◌, ◌++◌}
 use native.Mathlib.Nat.{zero-add}
 use native.Mathlib.Omega.{arith}
+use Rattle.std.proofs.Math.Nat.{min-eq_left}
+use Rattle.std.proofs.lemmas.List.{drop-take}
 use lib.Dec.{leb}
 use lib.ListN.{length, take, drop, length-take}
-use lib.Seq.{drop-drop, take-take, take-nil, length-take-le}
+use lib.Seq.{drop-drop, take-take, length-take-le}
 use borrow.Author.Tests.{le-leb, leb-true}
 use Rattle.fields.specs.Fields.{u16_at}
 use Rattle.fields.specs.Lists.{pick, part}
@@ -17,12 +19,6 @@ use Rattle.fields.proofs.Slices.{same-part}
 use Rattle.rules.specs.Desk.{answer_to, register_after}
 use Rattle.log_lines.specs.Run.{stated_length}
 use Rattle.batch.specs.Batch.{report_here, first_length, first_report, ends_run, reports_here, bytes_in, run_ends, after_cut}
-
-drop_of_take : (m n : ℕ) (l : List ℕ) → drop m (take n l) ≡ take (n - m) (drop m l)
-drop_of_take zero n l = let e : n - 0 ≡ n = omega arith in rw e
-drop_of_take (suc m) zero l = let e : 0 - suc m ≡ 0 = omega arith in rw e
-drop_of_take (suc m) (suc n) [] = sym (take-nil (suc n - suc m))
-drop_of_take (suc m) (suc n) (x ∷ l) = let e : suc n - suc m ≡ n - m = omega arith in rw e (drop_of_take m n l)
 
 stated-least : (s : List ℕ) → 48 ≤ stated_length s
 unfolding stated_length
@@ -47,20 +43,25 @@ pub record FirstHere (input : List ℕ) (w : ℕ) : Type 0 where
   pub bytes : length (first_report input) ≡ first_length input
 
 first-here : (input : List ℕ) (w : ℕ) → leb (stated_length (take w input)) (length (take w input)) ≡ true → FirstHere input w
-unfolding report_here first_length pick
+unfolding report_here
 first-here input w t =
     let most = leb-true (stated_length (take w input)) (length (take w input)) t in
     let short : length (take w input) ≡ min w (length input) = length-take w input in
     let least = stated-least (take w input) in
     let same : stated_length (take w input) ≡ stated_length input = same-stated input w (omega arith) in
     let all : leb (stated_length input) (length input) ≡ true = le-leb (stated_length input) (length input) (omega arith) in
+    let here : first_length (take w input) ≡ stated_length input = min-eq_left most ∙ same in
+    let whole : first_length input ≡ stated_length input = min-eq_left (omega arith) in
     let cut : stated_length input ≤ w = omega arith in
+    let parts : stated_length input + (w - stated_length input) ≡ w = omega arith in
+    let cut-after : drop (stated_length input) (take w input) ≡ take (w - stated_length input) (drop (stated_length input) input) =
+    ap (λ (k : ℕ). drop (stated_length input) (take k input)) (sym parts) ∙ drop-take (stated_length input) (w - stated_length input) input in
     record {
-      size = rw (t, all) same;
-      report = rw (t, all, same) (take-take (stated_length input) w input cut);
-      left = rw all (drop_of_take (stated_length input) w input);
+      size = here ∙ sym whole;
+      report = rw (here, whole) (take-take (stated_length input) w input cut);
+      left = rw whole cut-after;
       here = rw all;
-      bytes = rw all (length-take-le (stated_length input) input (omega arith));
+      bytes = rw whole (length-take-le (stated_length input) input (omega arith));
     }
 
 -- one report more before a cut

@@ -1,5 +1,5 @@
 -- Reports that came together: which ones an input holds so far, their lines, and what is left to do after them.
-use Rattle.std.specs.Prelude.{ℕ, zero, suc, ◌+◌, Bool, true, false, not, ◌&&◌, ◌||◌, List, [], ◌∷◌, ◌++◌, leb, eqb, length, take, drop}
+use Rattle.std.specs.Prelude.{ℕ, zero, suc, ◌+◌, Bool, true, false, not, ◌&&◌, ◌||◌, List, [], ◌∷◌, ◌++◌, leb, eqb, min, length, take, drop}
 use Rattle.fields.specs.Lists.{pick}
 use Rattle.rules.specs.Desk.{answer_to, register_after}
 use Rattle.log_lines.specs.declared.Progress.{Progress}
@@ -11,8 +11,8 @@ use Rattle.batch.specs.declared.Batch.{Batch}
 unfoldable pub report_here : List ℕ → Bool → Bool
 report_here input ended = leb (stated_length input) (length input) || ended && not (eqb (length input) 0)
 
-unfoldable pub first_length : List ℕ → ℕ
-first_length input = pick (leb (stated_length input) (length input)) (stated_length input) (length input)
+abbrev pub first_length : List ℕ → ℕ
+first_length input = min (stated_length input) (length input)
 
 abbrev pub first_report : List ℕ → List ℕ
 first_report input = take (first_length input) input

@@ -1,67 +1,51 @@
 // Reading, so that an end and a failure are told apart; the line of a failure; which arguments there are.
 #![tactic(auto)]
 
-ghost use Rattle.std.specs.Prelude.{◌≤◌, length};
+ghost use Rattle.std.specs.Prelude.{◌≡◌, ◌<◌, ◌≤◌, length, IfOk, IfSome, IsErr, MatchResult};
 
 use std::env::{Env, FillError};
 use std::io;
 use std::io::{Eprint, ErrorKind, Read};
 
-// What came of reading: how many bytes, and whether the input ended or a read failed, and why.
-#[derive(Clone, Copy)]
-pub struct Input {
-    pub length: usize,
-    pub ended: bool,
-    pub failed: Option<io::Error>,
-}
+// Something failed, and a line on standard error says what and why.
+#[derive(Clone, Copy, Debug, PartialEq, Eq)]
+pub struct Said;
 
-// One read. One that is interrupted has brought nothing; the last one then has failed.
-pub fn read_once<R: Read>(reader: &mut R, bytes: &mut [u8], last: bool) -> Input
-    ensures { result.length ≤ length bytes.old }
+// A read that is interrupted has brought nothing, and is made again. A proved loop has to end; the read after its turns is the last.
+fn read_again<R: Read>(reader: &mut R, bytes: &mut [u8]) -> io::Result<usize>
+    ensures { IfOk result (λ got. got ≤ length bytes.old) }
 {
-    match reader.read(bytes) {
-        Ok(got) => Input {
-            length: got,
-            ended: got == 0,
-            failed: None,
-        },
-        Err(error) => Input {
-            length: 0,
-            ended: false,
-            failed: failure(error, last),
-        },
+    for _ in 0..u64::MAX {
+        match reader.read(bytes) {
+            Err(error) if error.kind() == ErrorKind::Interrupted => {}
+            done => return done,
+        }
     }
+    reader.read(bytes)
 }
 
-fn failure(error: io::Error, last: bool) -> Option<io::Error> {
-    if last | (error.kind() != ErrorKind::Interrupted) {
-        Some(error)
-    } else {
-        None
-    }
-}
-
-// Reads until the bytes are full, the input ends or a read fails. A proved loop has to end, so it counts the turns that are left.
-pub fn read_full<R: Read>(reader: &mut R, bytes: &mut [u8]) -> Input
-    ensures { result.length ≤ length bytes.old }
+// One read: how many bytes it brought, or None where the input has ended.
+pub fn read_once<R: Read>(reader: &mut R, bytes: &mut [u8]) -> io::Result<Option<usize>>
+    ensures { IfOk result (λ brought. IfSome brought (λ got. (0 < got) × (got ≤ length bytes.old))) }
 {
-    let end = bytes.len();
-    let mut length = 0;
-    let mut ended = false;
-    let mut failed = None;
-    let mut turns = u64::MAX;
-    while turns > 0 && (length < end) & !ended & failed.is_none() {
-        turns -= 1;
-        let input = read_once(reader, &mut bytes[length..end], turns == 0);
-        length += input.length;
-        ended = input.ended;
-        failed = input.failed;
+    match read_again(reader, bytes)? {
+        0 => Ok(None),
+        got => Ok(Some(got)),
     }
-    Input {
-        length,
-        ended,
-        failed,
+}
+
+// Reads until the bytes are full, the input ends or a read fails.
+pub fn read_full<R: Read>(reader: &mut R, bytes: &mut [u8]) -> io::Result<usize>
+    ensures { IfOk result (λ read. read ≤ length bytes.old) }
+{
+    let mut read = 0;
+    while read < bytes.len() {
+        match read_once(reader, &mut bytes[read..])? {
+            Some(got) => read += got,
+            None => break,
+        }
     }
+    Ok(read)
 }
 
 // A line on standard error: what failed, and why.
@@ -75,6 +59,16 @@ pub fn fail<R: Eprint + Alloc>(rt: &R, what: &str, error: &io::Error) {
     };
 }
 
+// What was done, or a line on standard error: what failed, and why.
+pub fn or_said<T, R: Eprint + Alloc>(rt: &R, what: &str, done: io::Result<T>) -> Result<T, Said>
+    ensures { MatchResult done (λ value. result ≡ Ok value) (λ error. IsErr result) }
+{
+    done.map_err(|error| {
+        fail(rt, what, &error);
+        Said
+    })
+}
+
 // The text of an error without the number that the system has for it.
 fn without_number(why: &str) -> &str {
     match why.split_once(" (os error ") {
@@ -85,8 +79,5 @@ fn without_number(why: &str) -> &str {
 
 // Whether there is an argument of that number, from 1.
 pub fn has_arg<R: Env>(rt: &R, number: usize) -> bool {
-    match rt.arg(number, &mut []) {
-        Err(FillError::NotPresent) => false,
-        _ => true,
-    }
+    !matches!(rt.arg(number, &mut []), Err(FillError::NotPresent))
 }

@@ -37,14 +37,10 @@ fn main(rt: HostRuntime) {
 fn answer_input<R: Print, I: Read>(rt: &R, from: &mut I) -> Result<(), Failure> {
     let mut window = [0u8; 4096];
     let mut line = Line::EMPTY;
-    for left in (0..u64::MAX).rev() {
-        let input = streams::read_once(from, &mut window, left == 0);
-        if let Some(error) = input.failed {
-            return Err(Failure::Unread(error));
-        }
-        answer_lines(rt, &window[..input.length], &mut line).map_err(Failure::Unwritten)?;
-        if input.ended {
-            break;
+    for _ in 0..u64::MAX {
+        match streams::read_once(from, &mut window).map_err(Failure::Unread)? {
+            Some(got) => answer_lines(rt, &window[..got], &mut line).map_err(Failure::Unwritten)?,
+            None => break,
         }
     }
     if line.length > 0 {
