@@ -1,12 +1,12 @@
 -- Outside the minutes to be asked every forced level fits beside the highest deratings. Assumes nothing.
 use Prim.Native.Nat.{ℕ, zero, suc, ◌+◌, ◌-◌, ◌≤◌, ◌<◌}
 use mathlib.Core.Path.{◌≡◌, refl, ap, sym, ◌∙◌, subst}
-use mathlib.Core.Bool.{Bool, true, false, ◌&&◌}
+use mathlib.Core.Bool.{Bool, true, false}
 use mathlib.Core.List.{List}
 use mathlib.Core.Logic.{◌⊎◌, inl, inr, ⊎_elim}
 use native.Mathlib.Nat.{add-zero, zero-add}
 use native.Mathlib.Omega.{arith}
-use lib.Dec.{ltb, eqb}
+use lib.Dec.{ltb}
 use borrow.Author.Tests.{ltb-true, ltb-false}
 use Rattle.std.proofs.Common.{Option, Some, None}
 use Rattle.std.proofs.lemmas.Option.{none-some}
@@ -17,7 +17,6 @@ use Rattle.fields.proofs.Tests.{all-intro, all-at}
 use Rattle.quantities.specs.declared.Kilowatt.{Kilowatt}
 use Rattle.quantities.specs.declared.Minute.{Minute}
 use Rattle.quantities.specs.declared.Period.{Period}
-use Rattle.quantities.specs.Quantities.{overlap}
 use Rattle.rules.specs.declared.Levels.{Levels}
 use Rattle.rules.specs.Codes.{forced_work}
 use Rattle.rules.specs.Minutes.{FullRecord, fits_beside, levels_at, levels_fit, every_minute, levels_every}
@@ -28,10 +27,10 @@ use Rattle.levels.specs.declared.Lanes.{Lanes}
 use Rattle.levels.specs.declared.Limits.{Limits}
 use Rattle.levels.specs.declared.SweepResult.{SweepResult}
 use Rattle.levels.specs.Pairs.{level_among_pairs}
-use Rattle.levels.specs.Lanes.{lane_count, lane_in, lane_pair, lane_levels}
-use Rattle.levels.specs.Extremes.{CoversIfSome, CoversType, highest_of, common, joined_with, with_unfit, MinuteIn, Asks, AsksBy, AsksType}
+use Rattle.levels.specs.Lanes.{lane_count, lane_pair, lane_levels}
+use Rattle.levels.specs.Extremes.{LaneWithin, CoversIfSome, CoversType, highest_of, common, joined_with, with_unfit, MinuteIn, Asks, AsksBy, AsksType}
 use Rattle.levels.specs.Result.{found_in}
-use Rattle.levels.proofs.EachLane.{Seen, seen_none, seen_more, seen-skipped, seen-past, seen_all}
+use Rattle.levels.proofs.EachLane.{Seen, seen_none, seen_more, seen-past, seen_all}
 use Rattle.levels.proofs.Bounds.{fits-alone}
 use Rattle.levels.proofs.Turns.{found-same}
 
@@ -145,18 +144,13 @@ module _ (ls : Lanes) (period : Period) (passes : Kilowatt → Type 0) where
   grows w k (Some x) a = ⊎_elim (λ q. inl q) (λ q. inr (w.old k q)) a
 
   module _ {i : ℕ} {h : Period} (seen : SeenAsked i h) (l : i < lane_count) where
-    pub lanes-skipped : lane_in ls i ≡ None → SeenAsked (i + 1) h
-    lanes-skipped q = seen-skipped (Asks passes) (λ h k. tt) ls forced_work period seen l q
+    pub lanes-past : LaneWithin ls i forced_work period None → SeenAsked (i + 1) h
+    lanes-past q = seen-past (Asks passes) (λ h k. tt) ls forced_work period seen l q
 
-    module _ {lane : Lane} (here : lane_in ls i ≡ Some lane) where
-      pub lanes-more : {f : ℕ → Pair} {r : Period} → f ≡ lane_pair ls i → AsksBy passes f lane.count lane.period.start.0 h r
-          → SeenAsked (i + 1) r
-      lanes-more {f} {r} read w =
-          seen_more (Asks passes) (λ h k. tt) ls forced_work period seen l here read (record { keeps = grows w }) w.new
-
-      pub lanes-past : {t : Bool} → t ≡ overlap lane.period period → (eqb lane.record_type forced_work && t) ≡ false
-          → SeenAsked (i + 1) h
-      lanes-past q apart = seen-past (Asks passes) (λ h k. tt) ls forced_work period seen l here q apart
+    pub lanes-more : {lane : Lane} {f : ℕ → Pair} {r : Period} → LaneWithin ls i forced_work period (Some lane) → f ≡ lane_pair ls i
+        → AsksBy passes f lane.count lane.period.start.0 h r → SeenAsked (i + 1) r
+    lanes-more here read w =
+        seen_more (Asks passes) (λ h k. tt) ls forced_work period seen l here read (record { keeps = grows w }) w.new
 
   pub lanes_all : {i : ℕ} {h : Period} → SeenAsked i h → lane_count ≤ i → AsksType ls forced_work period passes h
   lanes_all seen l = record { asks = seen_all (Asks passes) (λ h k. tt) ls forced_work period seen l }

@@ -1,7 +1,7 @@
 -- Where the extremes of the lanes fit, every minute does. Assumes nothing.
 use Prim.Native.Nat.{ℕ, zero, suc, ◌+◌, ◌-◌, ◌≤◌, ◌<◌}
 use mathlib.Core.Path.{◌≡◌, refl, ap, sym, ◌∙◌, subst}
-use mathlib.Core.Bool.{Bool, true, false, not, ◌&&◌, ◌||◌, false≢true}
+use mathlib.Core.Bool.{Bool, true, false, not, ◌||◌, false≢true}
 use mathlib.Core.List.{List}
 use native.Mathlib.Omega.{arith}
 use lib.Dec.{leb, ltb, eqb}
@@ -13,7 +13,6 @@ use Rattle.fields.proofs.Bools.{and_left, and_right, and_both, pick-elim}
 use Rattle.fields.proofs.Tests.{all-intro}
 use Rattle.quantities.specs.declared.Kilowatt.{Kilowatt}
 use Rattle.quantities.specs.declared.Period.{Period}
-use Rattle.quantities.specs.Quantities.{overlap}
 use Rattle.rules.specs.declared.PowerRange.{PowerRange}
 use Rattle.rules.specs.Codes.{W1, M1, Z1}
 use Rattle.rules.specs.Minutes.{FullRecord, is_none_or, fits_w1_m1, power_of, fits_z1, fits_beside, levels_at, levels_fit, levels_every}
@@ -23,9 +22,9 @@ use Rattle.levels.specs.declared.Lane.{Lane}
 use Rattle.levels.specs.declared.Lanes.{Lanes}
 use Rattle.levels.specs.declared.Limits.{Limits}
 use Rattle.levels.specs.Pairs.{level_among_pairs}
-use Rattle.levels.specs.Lanes.{lane_count, lane_in, lane_pair, lane_levels}
-use Rattle.levels.specs.Extremes.{Between, Covers, WiderBy, CoversIfSome, CoversType, highest_of, extremes_fit}
-use Rattle.levels.proofs.EachLane.{Seen, seen_none, seen_more, seen-skipped, seen-past, seen_all}
+use Rattle.levels.specs.Lanes.{lane_count, lane_pair, lane_levels}
+use Rattle.levels.specs.Extremes.{LaneWithin, Between, Covers, WiderBy, CoversIfSome, CoversType, highest_of, extremes_fit}
+use Rattle.levels.proofs.EachLane.{Seen, seen_none, seen_more, seen-past, seen_all}
 
 -- the pairs of a lane
 pub wider-none : {f : ℕ → Pair} {e : Extremes} → WiderBy f 0 e e
@@ -93,18 +92,14 @@ module _ (ls : Lanes) (type : ℕ) (period : Period) where
   extremes-none = seen_none covering (λ e k. tt) ls type period
 
   module _ {i : ℕ} {e : Extremes} (h : SeenExtremes i e) (l : i < lane_count) where
-    pub extremes-skipped : lane_in ls i ≡ None → SeenExtremes (i + 1) e
-    extremes-skipped q = seen-skipped covering (λ e k. tt) ls type period h l q
+    pub extremes-past : LaneWithin ls i type period None → SeenExtremes (i + 1) e
+    extremes-past q = seen-past covering (λ e k. tt) ls type period h l q
 
-    module _ {lane : Lane} (here : lane_in ls i ≡ Some lane) where
-      pub extremes-more : {f : ℕ → Pair} {r : Extremes} → f ≡ lane_pair ls i → WiderBy f lane.count e r → SeenExtremes (i + 1) r
-      extremes-more {f} {r} read w =
-          seen_more covering (λ e k. tt) ls type period h l here read (record { keeps = λ k v c. wider-covers w v c })
-          (λ k x. among-covers f r 0 lane.count k (λ j a o. w.new j (omega arith)))
-
-      pub extremes-past : {t : Bool} → t ≡ overlap lane.period period → (eqb lane.record_type type && t) ≡ false
-          → SeenExtremes (i + 1) e
-      extremes-past q apart = seen-past covering (λ e k. tt) ls type period h l here q apart
+    pub extremes-more : {lane : Lane} {f : ℕ → Pair} {r : Extremes} → LaneWithin ls i type period (Some lane) → f ≡ lane_pair ls i
+        → WiderBy f lane.count e r → SeenExtremes (i + 1) r
+    extremes-more {lane} {f} {r} here read w =
+        seen_more covering (λ e k. tt) ls type period h l here read (record { keeps = λ k v c. wider-covers w v c })
+        (λ k x. among-covers f r 0 lane.count k (λ j a o. w.new j (omega arith)))
 
   module _ {i : ℕ} {e : Extremes} (h : SeenExtremes i e) (l : lane_count ≤ i) where
     pub extremes-some : CoversType ls type period (Some e)

@@ -16,7 +16,31 @@ use Rattle.block.specs.declared.Pair.{Pair}
 use Rattle.levels.specs.declared.Lane.{Lane}
 use Rattle.levels.specs.declared.Lanes.{Lanes}
 use Rattle.levels.specs.Pairs.{level_among_pairs}
+use Rattle.levels.specs.Extremes.{LaneWithin}
 use Rattle.levels.specs.Lanes.{lane_count, lane_in, lane_pair, lane_level, level_if_lane, level_among_lanes, type_level}
+
+-- a lane of another type, or one that shares no minute with the period
+module _ (ls : Lanes) (i type : ℕ) (period : Period) where
+  pub no-lane : lane_in ls i ≡ None → LaneWithin ls i type period None
+  no-lane q k x y = rw q
+
+  pub lane-apart : {lane : Lane} {t : Bool} → lane_in ls i ≡ Some lane → t ≡ overlap lane.period period
+      → (eqb lane.record_type type && t) ≡ false → LaneWithin ls i type period None
+  unfolding lane_level
+  lane-apart {lane} {t} here q apart k x y =
+      rw here
+      (pick-elim (λ (v : Option Kilowatt). v ≡ None) _ (λ holds. absurd (false≢true (sym apart ∙ shared holds))) (λ _. refl))
+    where
+      shared : (eqb lane.record_type type && leb lane.period.start.0 k && ltb k lane.period.end.0) ≡ true
+          → (eqb lane.record_type type && t) ≡ true
+      shared holds =
+          let same = eqb lane.record_type type in
+          let from = leb lane.period.start.0 k in
+          let started = leb-true lane.period.start.0 k (and_right same from (and_left (same && from) _ holds)) in
+          let ends = ltb-true k lane.period.end.0 (and_right (same && from) _ holds) in
+          and_both (and_left same from (and_left (same && from) _ holds))
+          (q ∙ and_both (lt-ltb lane.period.start.0 period.end.0 (omega arith)) (lt-ltb period.start.0
+          lane.period.end.0 (omega arith)))
 
 -- P e k l: what e, kept by a loop over the lanes, says of a level l in minute k
 module _ {S : Type 0} (P : S → ℕ → Option Kilowatt → Type 0) (none : (e : S) (k : ℕ) → P e k None) where
@@ -45,44 +69,21 @@ module _ {S : Type 0} (P : S → ℕ → Option Kilowatt → Type 0) (none : (e 
               let ne = eqb-false j i t in
               w.keeps k _ (h.before j k (omega arith) x y)
 
-      pub seen-skipped : lane_in ls i ≡ None → Seen (i + 1) e
-      seen-skipped q =
+      pub seen-past : LaneWithin ls i type period None → Seen (i + 1) e
+      seen-past q =
           seen_next (record { keeps = λ k v c. c })
-          (λ k x y. subst (λ (l : Option Lane). P e k (level_if_lane l (lane_pair ls i) type k)) (sym q) (none e k))
+          (λ k x y. subst (λ (v : Option Kilowatt). P e k v) (sym (q k x y)) (none e k))
 
-      module _ {lane : Lane} (here : lane_in ls i ≡ Some lane) where
-        own-level : {r : S} (k : ℕ) → P r k (lane_level lane (lane_pair ls i) type k) → P r k (level i k)
-        own-level {r} k = subst (λ (l : Option Lane). P r k (level_if_lane l (lane_pair ls i) type k)) (sym here)
-
-        pub seen_more : {f : ℕ → Pair} {r : S} → f ≡ lane_pair ls i → Grows e r
-            → ((k : ℕ) → lane.period.start.0 ≤ k → P r k (level_among_pairs (series f 0 lane.count) k)) → Seen (i + 1) r
-        unfolding lane_level
-        seen_more {f} {r} read w own =
-            seen_next w
-            (λ k x y. own-level k (pick-elim (λ (v : Option Kilowatt). P r k v) _
-            (λ t. subst (λ (f : ℕ → Pair). P r k (level_among_pairs (series f 0 lane.count) k)) read
-            (own k (leb-true lane.period.start.0 k (and_right (eqb lane.record_type type) _ (and_left _ _ t)))))
-            (λ t. none r k)))
-
-        pub seen-past : {t : Bool} → t ≡ overlap lane.period period → (eqb lane.record_type type && t) ≡ false → Seen (i + 1) e
-        unfolding lane_level
-        seen-past {t} q apart =
-            seen_next (record { keeps = λ k v c. c })
-            (λ k x y. own-level k (pick-elim (λ (v : Option Kilowatt). P e k v) _
-            (λ holds. absurd (false≢true (sym apart ∙ shared k x y holds)))
-            (λ _. none e k)))
-          where
-            shared : (k : ℕ) → period.start.0 ≤ k → k < period.end.0
-                → (eqb lane.record_type type && leb lane.period.start.0 k && ltb k lane.period.end.0) ≡ true
-                → (eqb lane.record_type type && t) ≡ true
-            shared k x y holds =
-                let same = eqb lane.record_type type in
-                let from = leb lane.period.start.0 k in
-                let started = leb-true lane.period.start.0 k (and_right same from (and_left (same && from) _ holds)) in
-                let ends = ltb-true k lane.period.end.0 (and_right (same && from) _ holds) in
-                and_both (and_left same from (and_left (same && from) _ holds))
-                (q ∙ and_both (lt-ltb lane.period.start.0 period.end.0 (omega arith)) (lt-ltb period.start.0
-                lane.period.end.0 (omega arith)))
+      pub seen_more : {lane : Lane} {f : ℕ → Pair} {r : S} → LaneWithin ls i type period (Some lane) → f ≡ lane_pair ls i → Grows e r
+          → ((k : ℕ) → lane.period.start.0 ≤ k → P r k (level_among_pairs (series f 0 lane.count) k)) → Seen (i + 1) r
+      unfolding lane_level
+      seen_more {lane} {f} {r} here read w own =
+          seen_next w
+          (λ k x y. subst (λ (l : Option Lane). P r k (level_if_lane l (lane_pair ls i) type k)) (sym here)
+          (pick-elim (λ (v : Option Kilowatt). P r k v) _
+          (λ t. subst (λ (f : ℕ → Pair). P r k (level_among_pairs (series f 0 lane.count) k)) read
+          (own k (leb-true lane.period.start.0 k (and_right (eqb lane.record_type type) _ (and_left _ _ t)))))
+          (λ t. none r k)))
 
     or-else : (e : S) (k : ℕ) (v w : Option Kilowatt) → P e k v → P e k w → P e k (option_or v w)
     or-else e k None w p q = q

@@ -12,10 +12,11 @@ use Rattle.rules.specs.Minutes.{fits_beside}
 use Rattle.block.specs.declared.Pair.{Pair}
 use Rattle.levels.specs.declared.CountedTypes.{CountedTypes}
 use Rattle.levels.specs.declared.Extremes.{Extremes}
+use Rattle.levels.specs.declared.Lane.{Lane}
 use Rattle.levels.specs.declared.Lanes.{Lanes}
 use Rattle.levels.specs.declared.Limits.{Limits}
 use Rattle.levels.specs.Pairs.{level_among_pairs}
-use Rattle.levels.specs.Lanes.{type_level}
+use Rattle.levels.specs.Lanes.{lane_in, lane_pair, level_if_lane, type_level}
 
 -- slot i counts and is of a type; some slot is
 abbrev pub type_at : List ℕ → List Bool → ℕ → ℕ → Bool
@@ -36,6 +37,11 @@ abbrev pub types_meet : CountedTypes → Bool → ℕ → Bool
 types_meet counted with-report type =
     (counted.forced || with-report && eqb type forced_work)
     && ((counted.positive || with-report && eqb type positive_derating) || (counted.negative || with-report && eqb type negative_derating))
+
+-- lane i, or none where it has no level of the type in any minute of the period
+abbrev pub LaneWithin : Lanes → ℕ → ℕ → Period → Option Lane → Type 0
+LaneWithin ls i type period None = (k : ℕ) → period.start.0 ≤ k → k < period.end.0 → level_if_lane (lane_in ls i) (lane_pair ls i) type k ≡ None
+LaneWithin ls i type period (Some lane) = lane_in ls i ≡ Some lane
 
 -- a power lies between the two
 pub record Between (e : Extremes) (p : Kilowatt) : Type 0 where

@@ -9,7 +9,7 @@ ghost use Rattle.levels.specs.Pairs.{pairs_of, level_among_pairs, Passed};
 ghost use Rattle.levels.specs.Counted.{counted_records, swept_records};
 ghost use Rattle.levels.specs.Lanes.{lane_count, lane_of, report_lane, slot_lane, lane_at, lane_pair, lane_level, lane_levels, Stepped, Placed, Held, Chosen, chosen_levels, span_at, moved, soonest, Ready};
 ghost use Rattle.levels.specs.Result.{with_span, both_found, found_in, Ran};
-ghost use Rattle.levels.specs.Extremes.{counted_types, types_meet, WiderBy, CoversType, highest_of, extremes_fit, common, with_unfit, AsksBy, AsksType};
+ghost use Rattle.levels.specs.Extremes.{counted_types, types_meet, LaneWithin, WiderBy, CoversType, highest_of, extremes_fit, common, with_unfit, AsksBy, AsksType};
 ghost use Rattle.rules.specs.Codes.{forced_work};
 ghost use Rattle.levels.specs.Within.{power_within, pairs_within, slot_within, forced_within, level_warnings};
 
@@ -112,7 +112,7 @@ pub struct CountedTypes {
     pub negative: bool,
 }
 
-// Question 17, and warnings 2 and 4.
+// Question 17, and warnings 2 and 4. They are found together: `sweep_lanes` serves both, which differ in what is asked before it.
 #[derive(Clone, Copy)]
 pub struct SweepResult {
     pub fits: bool,
@@ -370,6 +370,7 @@ impl<'a> Lanes<'a> {
         ensures placed_after { Placed self.now places.new m.0 }
     {
         let mut until = LAST;
+        // By number: a lane's pairs and its place go by it.
         for i in 0..LANE_COUNT {
             let Some(lane) = self.each[i as usize] else {
                 continue;
@@ -406,6 +407,7 @@ impl<'a> Lanes<'a> {
         let mut places = [0u16; 9];
         let mut m = period.start;
         let mut g = nothing_found();
+        // Compared as numbers: the minutes left are the loop's measure.
         while m.0 < end.0 {
             let forced = self.choose_lane(&mut places, FORCED_WORK, m);
             if forced.at.is_some() {
@@ -428,24 +430,30 @@ impl<'a> Lanes<'a> {
         g
     }
 
+    // Lane i, where it is of the type and shares a minute with the period.
+    fn lane_within(&self, i: u8, record_type: u8, period: Period) -> Option<Lane>
+        requires { i < lane_count }
+        ensures { LaneWithin self.now i record_type period result }
+    {
+        let lane = self.each[i as usize]?;
+        let is_within = (lane.record_type == record_type)
+            & quantities::overlapping(lane.period, period);
+        if is_within { Some(lane) } else { None }
+    }
+
     // The extremes of the lanes of a type that share a minute with the period.
     fn extremes_of(&self, record_type: u8, period: Period) -> Option<Extremes>
         ensures { CoversType self.now record_type period result }
     {
-        // of no power
+        // Of no power: the lowest is above the highest. A flag or an Option here would be asked in every turn.
         let mut e = Extremes {
             lowest: Kilowatt(4294967295),
             highest: Kilowatt(0),
         };
         for i in 0..LANE_COUNT {
-            let Some(lane) = self.each[i as usize] else {
+            let Some(lane) = self.lane_within(i, record_type, period) else {
                 continue;
             };
-            let is_asked = (lane.record_type == record_type)
-                & quantities::overlapping(lane.period, period);
-            if !is_asked {
-                continue;
-            }
             e = self.pairs(i).extremes_in(lane.count, e);
         }
         if e.lowest <= e.highest { Some(e) } else { None }
@@ -461,14 +469,9 @@ impl<'a> Lanes<'a> {
             end: Minute(0),
         };
         for i in 0..LANE_COUNT {
-            let Some(lane) = self.each[i as usize] else {
+            let Some(lane) = self.lane_within(i, FORCED_WORK, period) else {
                 continue;
             };
-            let is_asked = (lane.record_type == FORCED_WORK)
-                & quantities::overlapping(lane.period, period);
-            if !is_asked {
-                continue;
-            }
             asked = self.pairs(i).asked_in(lane, passes, asked);
         }
         asked
@@ -599,6 +602,7 @@ impl Limits {
         let mut n = chosen.negative.at;
         let mut m = period.start;
         let mut found = nothing_found();
+        // Compared as numbers, as in `sweep_lanes`.
         while m.0 < end.0 {
             let forced = level_at(f);
             let positive = level_at(p);

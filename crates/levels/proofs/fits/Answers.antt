@@ -1,7 +1,4 @@
-use mathlib.Core.Path.{subst, sym}
-use Rattle.std.proofs.Common.{Option}
-use Rattle.levels.specs.declared.Extremes.{Extremes}
-use Rattle.levels.specs.Extremes.{CoversType}
+use mathlib.Core.Path.{sym}
 use Rattle.levels.proofs.Unforced.{fits-apart}
 use Rattle.levels.proofs.Bounds.{fits-unforced, fits-extremes}
 use Rattle.levels.proofs.Asked.{asked-enough}
@@ -12,13 +9,11 @@ returns-then-not-types_meet c = fits-apart _ _ _ _ _ _ _ _ _ c.head_of.ensures c
 
 pub returns-in_default : goal.returns-in_default
 returns-in_default c =
-    fits-unforced _ _ _ _ c.args.limits c.lanes_of-lanes.ensures
-    (subst (λ (e : Option Extremes). CoversType c.lanes_of-lanes.result 4 c.args.period e) c.in_default.is c.extremes_of.ensures)
+    fits-unforced _ _ _ _ c.args.limits c.lanes_of-lanes.ensures c.in_default.ensures
 
 pub returns-then-extremes_fit : goal.returns-then-extremes_fit
 returns-then-extremes_fit c =
-    fits-extremes _ _ _ _ c.args.limits c.lanes_of-lanes.ensures
-    (subst (λ (e : Option Extremes). CoversType c.lanes_of-lanes.result 4 c.args.period e) c.in-Some.is c.extremes_of.ensures)
+    fits-extremes _ _ _ _ c.args.limits c.lanes_of-lanes.ensures c.in-Some.ensures
     c.extremes_of-2.ensures c.extremes_of-3.ensures
     (rw (c.highest_of-positive.ensures, c.highest_of-negative.ensures) at c.extremes_fit.ensures) c.if-extremes_fit.true
 
