@@ -98,7 +98,7 @@ fn head_passes(h: Head) -> bool
         & (!(h.record_type == EVENT) | ((h.operation == CREATE) & zero))
 }
 
-// Question 6, of an early end.
+// Question 6, of an early end. Here and below minutes are compared by their numbers: tried as `m < n`, where `cc` stops at a limit.
 fn early_end_is_consistent(h: Head) -> bool
     ensures { result ≡ early_end_times h }
 {
