@@ -12,7 +12,7 @@ use log_lines::Progress;
 pub const LINE_SIZE: usize = 128;
 
 // The progress after the reports, how many bytes of the input they are and of the text their lines, whether one was accepted, and
-// whether one ends the run.
+// whether one ends the run: either of the two can be without the other, so they are no cases of one enum.
 #[derive(Clone, Copy)]
 pub struct Batch {
     pub progress: Progress,
