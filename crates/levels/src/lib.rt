@@ -791,10 +791,7 @@ pub fn fits(
 fn highest_of(e: Option<Extremes>) -> Option<Kilowatt>
     ensures { result ≡ highest_of e }
 {
-    match e {
-        Some(e) => Some(e.highest),
-        None => None,
-    }
+    e.map(|e| e.highest)
 }
 
 // Warnings 2 and 4 of the slots that count, in a period. Swept are only minutes between levels that are beyond the limits.
