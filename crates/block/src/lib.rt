@@ -255,10 +255,10 @@ fn pairs_rise(z: &[u8], k: u16, period: Period) -> bool
         let at = PAIRS_START + PAIR_SIZE * (i as usize);
         let end = Minute(u32_in(z, at));
         let power = Kilowatt(u32_in(z, at + 4));
-        ok = ok & ((start.0 < end.0) & quantities::is_power(power));
+        ok = ok & ((start < end) & quantities::is_power(power));
         start = end;
     }
-    ok & (start.0 == period.end.0)
+    ok & (start == period.end)
 }
 
 // The same by one pass where the powers' bound is a power, as a rule.
@@ -282,9 +282,9 @@ fn holds_alone(kind: u8, last: Minute, r: Record) -> bool
         & fields_in_range(r)
         & kind_allows(kind, r)
         & (!(r.record_type == OFF_GRID) | has_begun(r))
-        & (r.period.start.0 < r.period.end.0)
-        & (r.stamp.0 <= last.0)
-        & (!has_begun(r) | (r.period.start.0 <= r.stamp.0))
+        & (r.period.start < r.period.end)
+        & (r.stamp <= last)
+        & (!has_begun(r) | (r.period.start <= r.stamp))
 }
 
 fn slot_whole(kind: u8, last: Minute, z: &[u8]) -> bool
@@ -316,12 +316,9 @@ fn free_from(b: &[u8]) -> u8
     ensures { FreeFrom b.now result }
 {
     let mut end = 0u8;
-    let mut i = 0u8;
-    while i < SLOT_COUNT {
-        let z = slot_at(b, i);
-        i += 1;
-        if is_used(z) {
-            end = i;
+    for i in 0..SLOT_COUNT {
+        if is_used(slot_at(b, i)) {
+            end = i + 1;
         }
     }
     end
