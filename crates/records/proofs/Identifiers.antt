@@ -16,8 +16,11 @@ from p i (suc n) [] ys a b h = absurd (omega arith)
 from p i (suc n) (x ∷ xs) [] a b h = absurd (omega arith)
 from p i (suc n) (x ∷ xs) (y ∷ ys) a b h =
     let here : p i ≡ eqb x y = rw add-zero at (h 0 (omega arith)) in
-    rw (here, from p (i + 1) n xs ys (omega arith) (omega arith)
-      (λ j l. ap p (let e : i + 1 + j ≡ i + suc j = omega arith in e) ∙ h (suc j) (omega arith)))
+    rw (
+      here,
+      from p (i + 1) n xs ys (omega arith) (omega arith)
+          (λ j l. ap p (let e : i + 1 + j ≡ i + suc j = omega arith in e) ∙ h (suc j) (omega arith)),
+    )
 
 pub compared : (n : ℕ) (xs ys : List ℕ) → length xs ≡ n → length ys ≡ n
     → pointwise eqb xs ys ≡ all (λ j. eqb (get_or xs j 0) (get_or ys j 0)) (series (λ j. j) 0 n)

@@ -9,8 +9,8 @@ loop-i-init c = searched-none _
 pub loop-i-preserved : goal.loop-i-preserved
 loop-i-preserved c =
     elim c.if-is_used.branch [
-      then-is_used w ↦ rw w.end-is (searched-used c.loop-i.invariant (omega arith))
-    | else-is_used w ↦ rw w.end-is (searched-free c.loop-i.invariant (omega arith) c.slot_at.ensures c.is_used.ensures w.if-is_used.false)
+      | then-is_used w ↦ rw w.end-is (searched-used c.loop-i.invariant (omega arith))
+      | else-is_used w ↦ rw w.end-is (searched-free c.loop-i.invariant (omega arith) c.slot_at.ensures c.is_used.ensures w.if-is_used.false)
     ]
 
 pub returns : goal.returns
