@@ -183,7 +183,7 @@ fn pair_in(pair: &[u8]) -> Pair
     Pair { end, power }
 }
 
-// Pair j of a slot, from 0: read where it lies, or in a copy with zeros past the slot's end.
+// Pair j of a slot, from 0: read where it lies, or in a copy with zeros past the slot's end, as a part of a report is.
 pub fn pair_at(z: &[u8], j: u16) -> Pair
     ensures { result ≡ pair_at z.now j }
 {
