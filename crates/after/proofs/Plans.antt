@@ -14,7 +14,7 @@ use Rattle.fields.proofs.Joined.{joined_same}
 use Rattle.fields.proofs.Tests.{series-at}
 use Rattle.report.specs.Report.{most_parts, head_of, parts_of, part_count_of}
 use Rattle.rules.specs.declared.Row.{Row}
-use Rattle.rules.specs.Block.{head_size, slot_size, slot_count, block_size, zeros, unit_head, slot_at, used, slot_numbered, is_slot}
+use Rattle.rules.specs.Block.{head_size, slot_size, slot_count, block_size, zeros, unit_head, slot_at, used, slot_numbered}
 use Rattle.rules.specs.Codes.{W1, create, change, withdraw}
 use Rattle.rules.specs.Records.{begun, holds_state}
 use Rattle.rules.specs.Questions.{record_of, is_event, is_withdrawal, is_operation, stamp_of, held_record, begins, changes_state, has_transition, live, stays}

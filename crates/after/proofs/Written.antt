@@ -17,13 +17,12 @@ use Rattle.report.specs.declared.PartLevel.{PartLevel}
 use Rattle.report.specs.Report.{most_parts, head_of, part_at, parts_of, part_count_of, part_level}
 use Rattle.rules.specs.declared.Record.{Record}
 use Rattle.rules.specs.declared.Row.{Row}
-use Rattle.rules.specs.declared.UnitHead.{UnitHead}
-use Rattle.rules.specs.Block.{pairs_start, pair_size, pair_start, unit_head, slot_size, zeros}
+use Rattle.rules.specs.Block.{pairs_start, pair_size, pair_start, slot_size, zeros}
 use Rattle.rules.specs.Questions.{record_of, kilowatts, record_by}
 use Rattle.rules.specs.After.{pair_bytes, slot_bytes, put_row}
 use Rattle.rules.proofs.Slots.{pairs-length}
 use Rattle.block.specs.Codec.{codes_bytes, times_bytes, put_record, pair_bytes_of, put_last_stamp}
-use Rattle.after.specs.Plan.{slot_made, row_planned, head_made}
+use Rattle.after.specs.Plan.{slot_made, head_made}
 
 drop-zeros : (m n : ℕ) → drop m (zeros n) ≡ zeros (n - m)
 unfolding zeros

@@ -56,6 +56,7 @@ fn set_slot(z: &mut [u8], report: &[u8], written: bool, cleared: bool)
     }
 }
 
+// No `chunks_exact_mut`, as in set-up: at the end of such a loop nothing is known of what the block holds.
 fn set_slots(b: &mut [u8], report: &[u8], plan: Plan)
     requires b_len { length b.old ≡ block_size }
     requires few_parts { part_count_of report.now ≤ most_parts }

@@ -107,7 +107,10 @@ pub fn desk_set_up(roster: &[u8], register: &mut [u8]) -> u32
     ensures value { result ≡ (set_up roster.now register.old).number }
     ensures register_after { register.new ≡ (set_up roster.now register.old).after }
 {
-    setup::set_up(roster, register) as u32
+    match setup::set_up(roster, register) {
+        Ok(()) => 0,
+        Err(refusal) => u32::from(u8::from(refusal)),
+    }
 }
 
 // For C: the number, 256 times the warnings and 65,536 times the part.

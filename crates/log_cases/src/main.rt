@@ -30,12 +30,11 @@ fn rosters(rt: &impl Print) -> io::Result<()> {
 
 // What is printed of a roster that is lent to set-up.
 fn fault(rt: &impl Print, roster: &[u8]) -> io::Result<()> {
-    let number = setup::set_up(roster, &mut [0u8; REGISTER_SIZE]);
-    if number == 0 {
+    let Err(error) = setup::set_up(roster, &mut [0u8; REGISTER_SIZE]) else {
         return println!(rt; "no fault");
-    }
+    };
     let mut text = [0u8; 128];
-    let end = log_lines::put_fault(&mut text, number);
+    let end = log_lines::put_fault(&mut text, u8::from(error));
     rt.write_all(&text[..end])
 }
 

@@ -166,8 +166,8 @@ fn put_shown(text: &mut [u8], at: usize, bytes: &[u8]) -> usize
     ensures text_after { text.new ≡ put text.old at (shown bytes.now) }
 {
     let mut end = at;
-    for j in 0..bytes.len() {
-        end = put_shown_byte(text, end, bytes[j]);
+    for b in bytes {
+        end = put_shown_byte(text, end, *b);
     }
     end
 }

@@ -33,64 +33,64 @@ pub struct LineHead {
     pub text_length: u32,
 }
 
-// The cursor n bytes on. It stops at the highest number that a place can be.
-pub fn past(c: Cursor, n: usize) -> Cursor
-    ensures { result ≡ cursor_past c n }
-{
-    let place = c.place;
-    if n <= 18446744073709551615 - place {
-        Cursor { place: place + n }
-    } else {
+impl Cursor {
+    // The cursor n bytes on. It stops at the highest number that a place can be.
+    #[tactic(auto, unfolding(fields::specs::Lists::pick, crate::specs::Reading::place_past))]
+    pub fn past(self, n: usize) -> Cursor
+        ensures { result ≡ cursor_past self n }
+    {
         Cursor {
-            place: 18446744073709551615,
+            place: self.place.saturating_add(n),
+        }
+    }
+
+    // The number that begins `gap` bytes on, two bytes wide or else four. A type of two widths would refuse other numbers to callers.
+    #[tactic(auto, unfolding(fields::specs::Lists::pick))]
+    pub fn take(self, report: &[u8], gap: usize, width: usize) -> Taken
+        ensures { result ≡ taken report.now self gap width }
+    {
+        let from = self.past(gap);
+        if width == 2 {
+            return Taken {
+                value: u32::from(fields::u16_at(report, from.place)),
+                next: from.past(2),
+            };
+        }
+        Taken {
+            value: fields::u32_at(report, from.place),
+            next: from.past(4),
         }
     }
 }
 
-// The number that begins `gap` bytes on, two bytes wide or else four.
-pub fn take(report: &[u8], c: Cursor, gap: usize, width: usize) -> Taken
-    ensures { result ≡ taken report.now c gap width }
-{
-    let from = past(c, gap);
-    if width == 2 {
-        let next = past(from, 2);
-        return Taken {
-            value: fields::u16_at(report, from.place) as u32,
-            next,
-        };
+impl<'a> Reader<'a> {
+    // A reader at the report's start.
+    pub fn start(report: &'a [u8]) -> Reader<'a>
+        ensures { result ≡ reader_at report.entry at_first }
+    {
+        let cursor = Cursor { place: 0 };
+        Reader { report, cursor }
     }
-    let next = past(from, 4);
-    Taken {
-        value: fields::u32_at(report, from.place),
-        next,
+
+    pub fn read(&mut self, gap: usize, width: usize) -> u32
+        ensures { (result ≡ (taken_here self.old gap width).value) × (self.new ≡ moved_on self.old gap width) }
+    {
+        let taken = self.cursor.take(self.report, gap, width);
+        self.cursor = taken.next;
+        taken.value
     }
-}
-
-// A reader at the report's start.
-pub fn start<'a>(report: &'a [u8]) -> Reader<'a>
-    ensures { result ≡ reader_at report.entry at_first }
-{
-    let cursor = Cursor { place: 0 };
-    Reader { report, cursor }
-}
-
-pub fn read<'s, 'a>(r: &'s mut Reader<'a>, gap: usize, width: usize) -> u32
-    ensures { (result ≡ (taken_here r.old gap width).value) × (r.new ≡ moved_on r.old gap width) }
-{
-    let t = take(r.report, r.cursor, gap, width);
-    r.cursor = t.next;
-    t.value
 }
 
 // The fields of a report's head that a line of the log shows, and those that say its length.
+#[tactic(auto, unfolding(fields::specs::Lists::pick, crate::specs::Reading::place_past))]
 pub fn line_head(report: &[u8]) -> LineHead
     ensures { result ≡ line_head report.now }
 {
-    let mut r = start(report);
-    let unit = read(&mut r, 2, 2);
-    let part_count = read(&mut r, 10, 2);
-    let stamp = Minute(read(&mut r, 16, 4));
-    let text_length = read(&mut r, 8, 2);
+    let mut r = Reader::start(report);
+    let unit = r.read(2, 2);
+    let part_count = r.read(10, 2);
+    let stamp = Minute(r.read(16, 4));
+    let text_length = r.read(8, 2);
     LineHead {
         unit,
         part_count,

@@ -66,9 +66,8 @@ fn set_up<R: Files + Print + Eprint + Alloc, I: Read>(
     let length = or_said(rt, "register_file: the roster can't be read", read)?;
     let units = length / ENTRY_SIZE;
     let size = BLOCK_SIZE * units;
-    let number = setup::set_up(&roster[..length], &mut register[..size]);
-    if number != 0 {
-        return Err(say_refusal(rt, number));
+    if let Err(error) = setup::set_up(&roster[..length], &mut register[..size]) {
+        return Err(say_refusal(rt, u8::from(error)));
     }
     file.write(rt, &register[..size])?;
     print_units(rt, units)

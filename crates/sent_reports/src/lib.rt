@@ -277,14 +277,14 @@ pub fn put_roster_a(roster: &mut [u8])
     put_entry(roster, 28, entry(9, Z1, 0, 50000, 0));
 }
 
-// Sets the register up from roster A.
+// Sets the register up from roster A. One of another size stays as it is.
 #[tactic(auto, using(crate::proofs::Entries::roster_alone))]
 pub fn fresh(register: &mut [u8])
     ensures { register.new ≡ (set_up roster_a register.old).after }
 {
     let mut roster = [0u8; 56];
     put_roster_a(&mut roster);
-    setup::set_up(&roster, register);
+    let _ = setup::set_up(&roster, register);
 }
 
 // The register of roster A, as it is before each case.

@@ -1,28 +1,25 @@
 -- Zeros written one by one, the fresh block, and one block after the other. Assumes nothing.
 use Prim.Native.Nat.{ℕ, ◌+◌, ◌*◌, ◌-◌, ◌≤◌}
 use mathlib.Core.Path.{◌≡◌, refl, ap, sym, ◌∙◌}
-use mathlib.Core.Bool.{Bool, true, false}
+use mathlib.Core.Bool.{Bool, true}
 use mathlib.Core.List.{List, [], ◌++◌}
 use native.Mathlib.Omega.{arith}
 use native.Mathlib.Nat.{zero-add}
-use lib.Dec.{eqb}
 use lib.ListN.{length, take, drop, length-append, length-replicate, replicate-append-replicate, drop_of_length-le}
 use lib.Seq.{sets-eq}
 use mathlib.Core.List.{append-nil}
-use borrow.Author.Tests.{eqb-true, eq-eqb, ne_eqb}
 use Rattle.fields.specs.Fields.{bytes_of}
-use Rattle.fields.specs.Lists.{pick, joined, part, put}
+use Rattle.fields.specs.Lists.{joined, part, put}
 use Rattle.fields.proofs.Bools.{every_true, range-true}
 use Rattle.fields.proofs.Slices.{put-nothing, put-append, put-length, part_length, part-lent, lent_back}
 use Rattle.fields.proofs.Joined.{joined-cut, joined_length}
 use Rattle.rules.specs.declared.RosterEntry.{RosterEntry}
 use Rattle.rules.specs.Roster.{most_units, entry_size, entry_of, roster_good, pieces_pass}
 use Rattle.rules.specs.Block.{head_size, slot_size, slot_count, block_size, zeros, head_bytes, fresh_block}
-use Rattle.rules.specs.Desk.{units, entry_at, new_register, set_up}
+use Rattle.rules.specs.Desk.{units, entry_at}
 use Rattle.rules.specs.declared.UnitHead.{UnitHead}
 use Rattle.rules.specs.After.{put_row}
 use Rattle.block.specs.Codec.{put_unit, put_last_stamp, put_powers, put_unit_head}
-use Rattle.setup.specs.Written.{refusal_of}
 
 zeros-head : (n m : ℕ) → zeros (n + m) ≡ zeros n ++ zeros m
 unfolding zeros
@@ -118,59 +115,7 @@ pub blocks-all : (roster first : List ℕ) (n : ℕ) → length first ≡ block_
 blocks-all roster first n l =
     put_all first _ (joined_length block_size (fresh roster) 1 n (λ v a b. fresh-length v _) ∙ sym l)
 
--- the ways to a refusal
-module _ (roster : List ℕ) (size : ℕ) {g : Bool} (asked : g ≡ roster_good roster) where
-  pub bad-roster : g ≡ false → 20 ≡ refusal_of roster size
-  unfolding refusal_of pick
-  bad-roster e = rw (← asked, e)
-
-  pub roster-few : g ≡ true → units roster ≤ most_units
-  unfolding pieces_pass
-  roster-few e = (range-true 1 most_units (units roster) (every_true _ (sym asked ∙ e)).1.0).1
-
-  pub bad-size : g ≡ true → (size ≡ block_size * units roster → ⊥) → 21 ≡ refusal_of roster size
-  unfolding refusal_of pick
-  bad-size e h = rw (← asked, e, ne_eqb _ _ h)
-
-  pub no-refusal : g ≡ true → size ≡ block_size * units roster → 0 ≡ refusal_of roster size
-  unfolding refusal_of pick
-  no-refusal e h = rw (← asked, e, eq-eqb _ _ h)
-
--- what set-up answers and leaves
-abbrev Done : List ℕ → List ℕ → ℕ → List ℕ → Type 0
-Done roster buffer number after = (number ≡ (set_up roster buffer).number) × (after ≡ (set_up roster buffer).after)
-
-pub record Room (roster : List ℕ) (size : ℕ) : Type 0 where
-  pub good : roster_good roster ≡ true
-  pub fits : size ≡ block_size * units roster
-
-module _ (roster buffer : List ℕ) {k : ℕ} (asked : k ≡ refusal_of roster (length buffer)) where
-  pub refused : (k ≡ 0 → ⊥) → Done roster buffer k buffer
-  unfolding refusal_of set_up pick
-  refused h = by-case (roster_good roster) (eqb (length buffer) (block_size * units roster)) refl refl where
-    by-case : (g l : Bool) → roster_good roster ≡ g → eqb (length buffer) (block_size * units roster) ≡ l
-        → Done roster buffer k buffer
-    by-case true true p q = absurd (h (asked ∙ rw (p, q)))
-    by-case true false p q = rw (p, q) (asked ∙ rw (p, q), refl)
-    by-case false l p q = rw p (asked ∙ rw p, refl)
-
-  module _ (zero : k ≡ 0) where
-    pub room : Room roster (length buffer)
-    unfolding refusal_of pick
-    room = by-case (roster_good roster) (eqb (length buffer) (block_size * units roster)) refl refl where
-      by-case : (g l : Bool) → roster_good roster ≡ g → eqb (length buffer) (block_size * units roster) ≡ l
-          → Room roster (length buffer)
-      by-case true true p q = record { good = p; fits = eqb-true _ _ q }
-      by-case true false p q =
-          let e : k ≡ 21 = asked ∙ rw (p, q) in
-          absurd (omega arith)
-      by-case false l p q =
-          let e : k ≡ 20 = asked ∙ rw p in
-          absurd (omega arith)
-
-    pub room-few : units roster ≤ most_units
-    room-few = roster-few roster 0 (sym room.good) refl
-
-    pub all-written : {after : List ℕ} → after ≡ joined (fresh roster) 1 (units roster) → Done roster buffer k after
-    unfolding set_up pick new_register
-    all-written e = rw (room.good, eq-eqb _ _ room.fits) (zero, e)
+-- a good roster has few entries
+pub roster_few : (roster : List ℕ) {g : Bool} → g ≡ roster_good roster → g ≡ true → units roster ≤ most_units
+unfolding pieces_pass
+roster_few roster asked e = (range-true 1 most_units (units roster) (every_true _ (sym asked ∙ e)).1.0).1

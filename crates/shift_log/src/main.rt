@@ -98,9 +98,8 @@ fn log_input<R: Print + Eprint + Alloc, I: Read, L: Lines>(
     let end = start.length;
     let mut register = [0u8; 57344];
     let size = BLOCK_SIZE * start.entries;
-    let number = setup::set_up(&input[..end], &mut register[..size]);
-    if number != 0 {
-        return print_fault(rt, number);
+    if let Err(error) = setup::set_up(&input[..end], &mut register[..size]) {
+        return print_fault(rt, u8::from(error));
     }
     let mut report = [0u8; 1850];
     let ahead = start.ahead;
