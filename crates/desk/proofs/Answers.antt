@@ -12,12 +12,11 @@ use Rattle.fields.proofs.Bools.{passed_over, every_true, range-true}
 use Rattle.fields.proofs.Slices.{part-lent, lent_back}
 use Rattle.report.specs.declared.Head.{Head}
 use Rattle.report.specs.Report.{most_parts, head_of, part_count_of, parts_of, whole}
-use Rattle.rules.specs.declared.Answer.{Answer}
 use Rattle.rules.specs.After.{block_after, some_slot, warnings}
 use Rattle.rules.specs.Questions.{leaves}
 use Rattle.rules.specs.Judge.{Verdict, told, no_to, part_beside, refusal_number, judge}
 use Rattle.rules.specs.declared.Refusal.{Refusal}
-use Rattle.std.specs.Prelude.{Result, Ok, Err, ⊤}
+use Rattle.std.specs.Prelude.{Result, Ok, Err, is_ok, ⊤}
 use Rattle.rules.specs.declared.UnitHead.{UnitHead}
 use Rattle.rules.specs.Block.{block_size, unit_head}
 use Rattle.rules.specs.Whole.{register_whole}
@@ -30,8 +29,10 @@ use Rattle.after.specs.Plan.{FreeSlots, plan_applied}
 use Rattle.after.proofs.Plans.{plan_after}
 
 -- what is answered and what is left is a step
-abbrev pub Is : Verdict → Answer → List ℕ → Type 0
-Is step a left = (a ≡ step.answer) × (left ≡ step.after)
+pub record Is (step : Verdict) (r : Result ℕ Refusal) (left : List ℕ) : Type 0 where
+  pub value : told r ≡ step.answer
+  pub accepted : is_ok r ≡ eqb step.answer.number 0
+  pub after : left ≡ step.after
 
 -- what `ask` says
 pub ask-passed : (n : ℕ) (t : Bool) {r : Result ⊤ Refusal} {y : ⊤} → r ≡ pick t (Ok tt) (Err (no_to n)) → r ≡ Ok y → t ≡ true
@@ -65,16 +66,20 @@ module _ (b s : List ℕ) {d : Result Decision Refusal} (decided : d ≡ decisio
     by-case true n p = (n, grind arith)
     by-case false n p = grind arith
 
-  pub refuses : {x : Refusal} → d ≡ Err x → Is (judge b s) (told (Err x)) b
+  pub refuses : {x : Refusal} → d ≡ Err x → Is (judge b s) (Err x) b
   unfolding judge first-refusal
   refuses {x} e =
       let no = stopped e in
-      (rw (passed_over _ _ refl no.0, no.1), rw (passed_over _ _ refl no.0))
+      record {
+        value = rw (passed_over _ _ refl no.0, no.1);
+        accepted = rw (passed_over _ _ refl no.0, no.0);
+        after = rw (passed_over _ _ refl no.0);
+      }
 
   module _ (long : length b ≡ block_size) (free : FreeSlots b) (few : part_count_of s ≤ most_parts) {y : Decision} (e : d ≡ Ok y) where
     pub accepts : {left : List ℕ} {h : Head} {w : ℕ}
         → left ≡ plan_applied b s (record { cleared = y.cleared; written = y.written; changes = y.changes }) → h ≡ head_of s
-        → w ≡ warnings_on left h y.left → Is (judge b s) (told (Ok w)) left
+        → w ≡ warnings_on left h y.left → Is (judge b s) (Ok w) left
     unfolding judge pick
     accepts {left} {h} {w} p head q =
         let yes = passed e in
@@ -85,43 +90,49 @@ module _ (b s : List ℕ) {d : Result Decision Refusal} (decided : d ≡ decisio
         let moved : warnings_on left h y.left ≡ warnings_on (block_after b s) (head_of s) (some_slot (leaves b s)) = rw
         (same, head, ap (λ (d : Decision). d.left) yes.1) in
         let warned : w ≡ warnings b s = q ∙ moved ∙ warnings-same b s in
-        (rw (yes.0, warned), same ∙ rw yes.0)
+        record { value = rw (yes.0, warned); accepted = rw yes.0; after = same ∙ rw yes.0 }
 
 -- questions 1 to 3, each after the one before
 module _ (reg s : List ℕ) {x : Bool} (one : x ≡ register_whole reg) where
-  pub no-1 : {a : Answer} → x ≡ false → a ≡ told (Err (no_to 1)) → Is (answer_to reg s) a reg
+  pub no-1 : x ≡ false → Is (answer_to reg s) (Err (no_to 1)) reg
   unfolding answer_to pick
-  no-1 q e =
+  no-1 q =
       let fails : register_whole reg ≡ false = sym one ∙ q in
-      (e ∙ rw fails, rw fails)
+      record { value = rw fails; accepted = rw fails; after = rw fails }
 
   module _ (q1 : x ≡ true) {y : Bool} (two : y ≡ whole s) where
     first : register_whole reg ≡ true
     first = sym one ∙ q1
 
-    pub no-2 : {a : Answer} → y ≡ false → a ≡ told (Err (no_to 2)) → Is (answer_to reg s) a reg
+    pub no-2 : y ≡ false → Is (answer_to reg s) (Err (no_to 2)) reg
     unfolding answer_to pick
-    no-2 q e =
+    no-2 q =
         let fails : whole s ≡ false = sym two ∙ q in
-        (e ∙ rw (first, fails), rw (first, fails))
+        record { value = rw (first, fails); accepted = rw (first, fails); after = rw (first, fails) }
 
     module _ (q2 : y ≡ true) {z : Bool} (three : z ≡ question3 reg s) where
       second : whole s ≡ true
       second = sym two ∙ q2
 
-      pub no-3 : {a : Answer} → z ≡ false → a ≡ told (Err (no_to 3)) → Is (answer_to reg s) a reg
+      pub no-3 : z ≡ false → Is (answer_to reg s) (Err (no_to 3)) reg
       unfolding answer_to pick
-      no-3 q e =
+      no-3 q =
           let fails : question3 reg s ≡ false = sym three ∙ q in
-          (e ∙ rw (first, second, fails), rw (first, second, fails))
+          record { value = rw (first, second, fails); accepted = rw (first, second, fails); after = rw (first, second, fails) }
 
       -- the unit's block is lent, judged and handed back
-      pub judged-there : {a : Answer} {left : List ℕ} → z ≡ true → a ≡ (judge (block_at reg (head_of s).unit) s).answer
-          → left ≡ with_block reg (head_of s).unit (judge (block_at reg (head_of s).unit) s).after → Is (answer_to reg s) a left
+      pub judged-there : {r : Result ℕ Refusal} {left : List ℕ} → z ≡ true
+          → told r ≡ (judge (block_at reg (head_of s).unit) s).answer
+          → is_ok r ≡ eqb (judge (block_at reg (head_of s).unit) s).answer.number 0
+          → left ≡ with_block reg (head_of s).unit (judge (block_at reg (head_of s).unit) s).after → Is (answer_to reg s) r left
       unfolding answer_to pick
-      judged-there q e f =
+      judged-there q e f g =
           let passes : question3 reg s ≡ true = sym three ∙ q in
-          (e ∙ rw (first, second, passes), f ∙ rw (first, second, passes))
+          record {
+            value = e ∙ rw (first, second, passes);
+            accepted = f ∙ rw (first, second, passes);
+            after = g ∙ rw (first, second, passes);
+          }
 
 -- question 3, where the unit is 1 to n and where it is not
 module _ (reg s : List ℕ) {h : Head} (e : h ≡ head_of s) where
@@ -162,11 +173,11 @@ abbrev pub lent : List ℕ → ℕ → List ℕ
 lent reg unit = take (block_size * (unit - 1) + block_size - block_size * (unit - 1)) (drop (block_size * (unit - 1)) reg)
 
 module _ (reg s : List ℕ) {unit : ℕ} (e : unit ≡ (head_of s).unit) where
-  pub answered-there : {a : Answer} → a ≡ (judge (lent reg unit) s).answer → a ≡ (judge (block_at reg (head_of s).unit) s).answer
-  answered-there p =
+  pub answered-there : {A : Type 0} (f : Verdict → A) {a : A} → a ≡ f (judge (lent reg unit) s) → a ≡ f (judge (block_at reg (head_of s).unit) s)
+  answered-there f p =
       p
-      ∙ ap (λ (b : List ℕ). (judge b s).answer) (part-lent reg (block_size * (unit - 1)) block_size)
-      ∙ ap (λ (u : ℕ). (judge (block_at reg u) s).answer) e
+      ∙ ap (λ (b : List ℕ). f (judge b s)) (part-lent reg (block_size * (unit - 1)) block_size)
+      ∙ ap (λ (u : ℕ). f (judge (block_at reg u) s)) e
 
   pub left_there : {vs : List ℕ} → Inside reg unit → length vs ≡ length (lent reg unit) → vs ≡ (judge (lent reg unit) s).after
       → take (block_size * (unit - 1)) reg ++ (vs ++ drop (block_size * (unit - 1) + block_size - block_size * (unit - 1)) (drop (block_size * (unit - 1)) reg))

@@ -1,7 +1,7 @@
 // The desk: set-up, the answer to a report on the register, and what C is answered: `desk_c` exports the functions that begin with desk_.
 #![tactic(auto)]
 
-ghost use Rattle.std.specs.Prelude.{◌≡◌, ◌≤◌, true, Ok, Err};
+ghost use Rattle.std.specs.Prelude.{◌≡◌, ◌≤◌, true, Ok, Err, is_ok, eqb};
 ghost use Rattle.report.specs.Report.{most_parts, part_count_of};
 ghost use Rattle.report.specs.Remark.{remark_place};
 ghost use Rattle.fields.specs.Lists.{pick};
@@ -19,24 +19,7 @@ use quantities::Minute;
 use report::RemarkPlace;
 use rules::{Answer, Refusal};
 
-// The paper's number and values of what is answered: 0 with the sum of an accepted report's warnings, or a refusal's number and part.
-fn told(outcome: Result<u8, Refusal>) -> Answer
-    ensures { result ≡ told outcome }
-{
-    match outcome {
-        Ok(sum) => Answer {
-            number: 0,
-            warnings: sum,
-            part: 0,
-        },
-        Err(refusal) => Answer {
-            number: refusal.number,
-            warnings: 0,
-            part: refusal.part,
-        },
-    }
-}
-
+#[tactic(auto, unfolding(fields::specs::Lists::pick))]
 fn ask(number: u8, yes: bool) -> Result<(), Refusal>
     ensures { result ≡ pick yes (Ok tt) (Err (no_to number)) }
 {
@@ -52,6 +35,7 @@ fn judge_block(b: &mut [u8], report: &[u8]) -> Result<u8, Refusal>
     requires whole_block { block_whole (unit_head b.old).unit b.old ≡ true }
     requires few_parts { part_count_of report.now ≤ most_parts }
     ensures value { told result ≡ (judged b.old report.now).answer }
+    ensures accepted { is_ok result ≡ eqb (judged b.old report.now).answer.number 0 }
     ensures b_after { b.new ≡ (judged b.old report.now).after }
 {
     let decision = judge::decide(b, report)?;
@@ -80,9 +64,11 @@ fn is_addressed(register: &[u8], report: &[u8]) -> bool
     }
 }
 
-// The questions in their order: the warnings, or the first "no".
-fn ask_all(register: &mut [u8], report: &[u8]) -> Result<u8, Refusal>
+// The answer to a report: the sum of an accepted report's warnings, or the first question that says no, of 1 to 19. A refusal leaves
+// every byte.
+pub fn answer_report(register: &mut [u8], report: &[u8]) -> Result<u8, Refusal>
     ensures value { told result ≡ (answer_to register.old report.now).answer }
+    ensures accepted { is_ok result ≡ eqb (answer_to register.old report.now).answer.number 0 }
     ensures register_after { register.new ≡ (answer_to register.old report.now).after }
 {
     ask(1, block::register_whole(register))?;
@@ -94,12 +80,22 @@ fn ask_all(register: &mut [u8], report: &[u8]) -> Result<u8, Refusal>
     judge_block(&mut register[a..e], report)
 }
 
-// The answer to a report: questions 1 to 19 and the warnings. A refusal leaves every byte.
-pub fn answer_report(register: &mut [u8], report: &[u8]) -> Answer
-    ensures value { result ≡ (answer_to register.old report.now).answer }
-    ensures register_after { register.new ≡ (answer_to register.old report.now).after }
+// An answer as the paper has it: 0 with the sum of the warnings, or a refusal's number and part.
+pub fn told(outcome: Result<u8, Refusal>) -> Answer
+    ensures { result ≡ told outcome }
 {
-    told(ask_all(register, report))
+    match outcome {
+        Ok(sum) => Answer {
+            number: 0,
+            warnings: sum,
+            part: 0,
+        },
+        Err(refusal) => Answer {
+            number: refusal.number,
+            warnings: 0,
+            part: refusal.part,
+        },
+    }
 }
 
 // For C: 0, 20 or 21.
@@ -118,8 +114,10 @@ pub fn desk_answer(register: &mut [u8], report: &[u8]) -> u32
     ensures value { result ≡ packed (answer_to register.old report.now).answer }
     ensures register_after { register.new ≡ (answer_to register.old report.now).after }
 {
-    let a = answer_report(register, report);
-    a.number as u32 + 256 * (a.warnings as u32) + 65536 * (a.part as u32)
+    match answer_report(register, report) {
+        Ok(sum) => 256 * u32::from(sum),
+        Err(refusal) => u32::from(refusal.number) + 65536 * u32::from(refusal.part),
+    }
 }
 
 // For C: the remark's number, and 256 where it is the standing text; where it begins, and its length.

@@ -3,11 +3,12 @@
 
 mod words;
 
-ghost use Rattle.std.specs.Prelude.{◌≡◌, ◌≤◌};
+ghost use Rattle.std.specs.Prelude.{◌≡◌, ◌≤◌, is_ok, eqb};
+ghost use Rattle.rules.specs.Judge.{told};
 ghost use Rattle.rules.specs.Desk.{answer_to};
 ghost use Rattle.sent_reports.specs.Sent.{report_sent};
 
-use rules::Answer;
+use rules::Refusal;
 use sent_reports::{
     D, MOST_BYTES, Sent, Step, begun_stop, derating, derating_over, event, forced, fresh_register,
 };
@@ -19,8 +20,9 @@ fn main(rt: HostRuntime) -> io::Result<()> {
     bench_findings(&rt)
 }
 
-fn answer(register: &mut [u8], s: Sent) -> Answer
-    ensures value { result ≡ (answer_to register.old (report_sent s)).answer }
+fn answer(register: &mut [u8], s: Sent) -> Result<u8, Refusal>
+    ensures value { told result ≡ (answer_to register.old (report_sent s)).answer }
+    ensures accepted { is_ok result ≡ eqb (answer_to register.old (report_sent s)).answer.number 0 }
     ensures register_after { register.new ≡ (answer_to register.old (report_sent s)).after }
 {
     let mut buffer = [0u8; MOST_BYTES];

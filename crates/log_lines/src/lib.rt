@@ -308,7 +308,7 @@ pub fn log_report(register: &mut [u8], report: &[u8], so_far: Progress, text: &m
     ensures text_after { text.new ≡ put text.old 0 (next_line so_far register.old report.now) }
     ensures register_after { register.new ≡ (answer_to register.old report.now).after }
 {
-    let a = desk::answer_report(register, report);
+    let a = desk::told(desk::answer_report(register, report));
     let progress = progress_after(so_far, a);
     let length = put_line(text, progress.lines, report, a);
     logged_at(progress, a, length)
@@ -321,7 +321,7 @@ pub fn log_remark(register: &mut [u8], report: &[u8], so_far: Progress, text: &m
     ensures text_after { text.new ≡ put text.old 0 (next_remark_line so_far register.old report.now) }
     ensures register_after { register.new ≡ (answer_to register.old report.now).after }
 {
-    let a = desk::answer_report(register, report);
+    let a = desk::told(desk::answer_report(register, report));
     let progress = progress_after(so_far, a);
     let length = put_remark_line(text, progress.lines, report, a);
     logged_at(progress, a, length)

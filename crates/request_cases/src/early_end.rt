@@ -84,7 +84,7 @@ fn then(rt: &impl Print, register: &mut [u8], words: &str, c: Change) -> io::Res
 fn running_register() -> [u8; REGISTER_SIZE] {
     let mut register = fresh_register();
     for c in [planned(NOON - 10, NOON), begun()] {
-        desk::answer_report(&mut register, compose(&mut [0u8; MOST_BYTES], c));
+        let _ = desk::answer_report(&mut register, compose(&mut [0u8; MOST_BYTES], c));
     }
     register
 }

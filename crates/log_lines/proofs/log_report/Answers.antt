@@ -1,3 +1,4 @@
+use mathlib.Core.Path.{◌∙◌}
 use Rattle.log_lines.specs.Log.{log_line}
 use Rattle.log_lines.proofs.Counts.{logged}
 use Rattle.log_lines.proofs.log_report.Goals as goal
@@ -5,8 +6,8 @@ use Rattle.log_lines.proofs.log_report.Goals as goal
 pub returns : goal.returns
 returns c =
     let args = c.args in
-    let said = c.answer_report-a.ensures in
-    let step = logged log_line args.so_far args.report.now _ _ said.value c.progress_after-progress.ensures
+    let said = c.answer_report.ensures in
+    let step = logged log_line args.so_far args.report.now _ _ (c.told-a.ensures ∙ said.value) c.progress_after-progress.ensures
     (c.put_line-length.ensures.value, c.put_line-length.ensures.text_after) c.logged_at.ensures in
     record {
       length_bound = rw c.logged_at.ensures c.put_line-length.ensures.upper_bound;

@@ -1,33 +1,34 @@
 use native.Mathlib.Omega.{arith}
-use mathlib.Core.Path.{refl, ap, sym, ◌∙◌}
+use mathlib.Core.Path.{ap, sym, ◌∙◌}
+use lib.Dec.{eqb}
 use Rattle.std.proofs.lemmas.Result.{err_from_is_err_and}
 use Rattle.report.specs.declared.Head.{Head}
 use Rattle.report.proofs.Sizes.{whole-sized}
 use Rattle.desk.proofs.Answers.{ask-passed, ask-stopped, no-1, no-2, no-3, judged-there, inside, answered-there, left_there}
 use Rattle.desk.proofs.Free.{lent-whole}
-use Rattle.desk.proofs.ask_all.Goals as goal
+use Rattle.desk.proofs.answer_report.Goals as goal
 
 pub returns-in_err-ask : goal.returns-in_err-ask
 returns-in_err-ask c =
     let p = err_from_is_err_and c.from_residual.result c.from_residual.ensures.1 in
     let no = ask-stopped 1 _ c.ask.ensures c.in_err-ask.was in
-    let said = no-1 _ _ c.register_whole.ensures no.0 refl in
-    rw (p.1, p.2, no.1) (record { value = said.0; register_after = said.1 })
+    let said = no-1 _ _ c.register_whole.ensures no.0 in
+    rw (p.1, p.2, no.1) (record { value = said.value; accepted = said.accepted; register_after = said.after })
 
 pub returns-in_err-ask-2 : goal.returns-in_err-ask-2
 returns-in_err-ask-2 c =
     let p = err_from_is_err_and c.from_residual-in_err-ask-2.result c.from_residual-in_err-ask-2.ensures.1 in
     let no = ask-stopped 2 _ c.ask-2.ensures c.in_err-ask-2.was in
-    let said = no-2 _ _ c.register_whole.ensures (ask-passed 1 _ c.ask.ensures c.in_ok-ask.was) c.is_whole.ensures no.0 refl in
-    rw (p.1, p.2, no.1) (record { value = said.0; register_after = said.1 })
+    let said = no-2 _ _ c.register_whole.ensures (ask-passed 1 _ c.ask.ensures c.in_ok-ask.was) c.is_whole.ensures no.0 in
+    rw (p.1, p.2, no.1) (record { value = said.value; accepted = said.accepted; register_after = said.after })
 
 pub returns-in_err-ask-3 : goal.returns-in_err-ask-3
 returns-in_err-ask-3 c =
     let p = err_from_is_err_and c.from_residual-in_err-ask-3.result c.from_residual-in_err-ask-3.ensures.1 in
     let no = ask-stopped 3 _ c.ask-3.ensures c.in_err-ask-3.was in
     let said = no-3 _ _ c.register_whole.ensures (ask-passed 1 _ c.ask.ensures c.in_ok-ask.was) c.is_whole.ensures
-    (ask-passed 2 _ c.ask-2.ensures c.in_ok-ask-2.was) c.is_addressed.ensures no.0 refl in
-    rw (p.1, p.2, no.1) (record { value = said.0; register_after = said.1 })
+    (ask-passed 2 _ c.ask-2.ensures c.in_ok-ask-2.was) c.is_addressed.ensures no.0 in
+    rw (p.1, p.2, no.1) (record { value = said.value; accepted = said.accepted; register_after = said.after })
 
 pub overflow_sub-a : goal.overflow_sub-a
 overflow_sub-a c =
@@ -54,5 +55,7 @@ returns c =
     let k = inside _ _ u c.is_addressed.ensures addressed in
     let said = judged-there _ _ c.register_whole.ensures (ask-passed 1 _ c.ask.ensures c.in_ok-ask.was) c.is_whole.ensures
     (ask-passed 2 _ c.ask-2.ensures c.in_ok-ask-2.was) c.is_addressed.ensures addressed
-    (answered-there _ _ u c.judge_block.ensures.value) (left_there _ _ u k c.judge_block.auto.b c.judge_block.ensures.b_after) in
-    record { value = said.0; register_after = said.1 }
+    (answered-there _ _ u (λ v. v.answer) c.judge_block.ensures.value)
+    (answered-there _ _ u (λ v. eqb v.answer.number 0) c.judge_block.ensures.accepted)
+    (left_there _ _ u k c.judge_block.auto.b c.judge_block.ensures.b_after) in
+    record { value = said.value; accepted = said.accepted; register_after = said.after }
