@@ -1,4 +1,4 @@
-use Rattle.std.proofs.Common.{arith, add-zero, ◌∙◌, ap}
+use Rattle.std.proofs.Common.{arith, add-zero}
 use Rattle.fields.proofs.Numbers.{uint-copied}
 use Rattle.quantities.proofs.period_at.Goals as goal
 
