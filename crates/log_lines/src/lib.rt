@@ -110,7 +110,7 @@ fn put_stamp(text: &mut [u8], at: usize, number: u8, stamp: Minute) -> usize
     }
 }
 
-// A report's line at the start of the text, without its line feed.
+// A report's line at the start of the text, without its line feed. The answer comes as `told` has it: each column is one of its numbers.
 fn put_line_text(text: &mut [u8], line: u64, report: &[u8], a: Answer) -> usize
     ensures upper_bound { result ≤ 121 }
     ensures value { result ≡ length (line_text line report.now a) }
