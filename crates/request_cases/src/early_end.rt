@@ -30,7 +30,8 @@ pub(crate) fn cases(rt: &impl Print) -> io::Result<()> {
     other_times(rt)?;
     println!(rt; "\nEnded at 14:07, but")?;
     other_codes(rt)?;
-    other_records(rt)
+    other_types(rt)?;
+    other_parts(rt)
 }
 
 fn planned(stamp: u32, start: u32) -> Change {
@@ -186,14 +187,13 @@ fn other_codes(rt: &impl Print) -> io::Result<()> {
     running(rt, &all)
 }
 
-fn other_records(rt: &impl Print) -> io::Result<()> {
+fn other_types(rt: &impl Print) -> io::Result<()> {
     let c = ended(SAID, ENDED);
     let of_type = |record_type, qualification| Sent {
         record_type,
         qualification,
         ..c.sent
     };
-    let of_power = |power| Sent { power, ..c.sent };
     let event = Sent {
         stamp: SAID,
         ..event(5)
@@ -221,6 +221,14 @@ fn other_records(rt: &impl Print) -> io::Result<()> {
                 ..c
             },
         ),
+    ];
+    running(rt, &all)
+}
+
+fn other_parts(rt: &impl Print) -> io::Result<()> {
+    let c = ended(SAID, ENDED);
+    let of_power = |power| Sent { power, ..c.sent };
+    let all = [
         (
             "its part still ends at 16:00",
             Change {
