@@ -74,9 +74,9 @@ row_first : (H J : List ℕ) (row : Row) → length H ≡ head_size → put_row 
 unfolding put_row
 row_first H J row e =
     let n = bytes-length 4 row.since.0 in
-    let l : length (put H 7 (row.state ∷ row.qualification ∷ [])) ≡ head_size = put-length H 7 _ ∙ e in
-    rw (put_first H J (row.state ∷ row.qualification ∷ []) 7 (omega arith))
-    (put_first (put H 7 (row.state ∷ row.qualification ∷ [])) J (bytes_of 4 row.since.0) 12 (omega arith))
+    let l : length (put H 7 (row.state.0 ∷ row.qualification ∷ [])) ≡ head_size = put-length H 7 _ ∙ e in
+    rw (put_first H J (row.state.0 ∷ row.qualification ∷ []) 7 (omega arith))
+    (put_first (put H 7 (row.state.0 ∷ row.qualification ∷ [])) J (bytes_of 4 row.since.0) 12 (omega arith))
 
 -- what is put in a block's head
 pub head_first : (H J : List ℕ) (t : Bool) (row : Row) (v : ℕ) → length H ≡ head_size

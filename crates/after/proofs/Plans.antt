@@ -31,8 +31,8 @@ module _ (b s : List ℕ) (p : Passed b s) (changes : changes_state b s ≡ true
   no-event : is_withdrawal s ≡ true → (t : Bool) → is_event s ≡ t → is_event s ≡ false
   no-event w false e = e
   no-event w true e =
-      let one = eqb-true (head_of s).operation create (event-creates b s p e) in
-      let three = eqb-true (head_of s).operation withdraw w in
+      let one = eqb-true (head_of s).operation.0 create (event-creates b s p e) in
+      let three = eqb-true (head_of s).operation.0 withdraw w in
       absurd (omega arith)
 
   -- a withdrawal is no event, and begins nothing
@@ -40,11 +40,11 @@ module _ (b s : List ℕ) (p : Passed b s) (changes : changes_state b s ≡ true
   unfolding changes_state
   no-withdrawal false w = w
   no-withdrawal true w =
-      let way = and_right (eqb (unit_head b).kind W1) (is_event s || begins b s) changes in
+      let way = and_right (eqb (unit_head b).kind.0 W1) (is_event s || begins b s) changes in
       let begun-now : begins b s ≡ true = rw (no-event w (is_event s) refl) at way in
       let operation = and_right (holds_state (record_of s))
       (is_operation create s || is_operation change s && not (begun (held_record b s))) begun-now in
-      absurd (false≢true (rw (eqb-true (head_of s).operation withdraw w) at operation))
+      absurd (false≢true (rw (eqb-true (head_of s).operation.0 withdraw w) at operation))
 
   row-moves : row_planned b s ≡ row_after b s
   unfolding pick

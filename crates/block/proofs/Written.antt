@@ -18,8 +18,8 @@ use Rattle.block.specs.declared.Pair.{Pair}
 use Rattle.block.specs.Codec.{codes_bytes, times_bytes, pair_bytes_of}
 
 pub codes-put : (z : List ℕ) (r : Record)
-    → put (put (put (put (put (put z 0 (bytes_of 2 slot_mark)) 2 (r.record_type ∷ [])) 3 (r.direction ∷ [])) 4
-    (r.qualification ∷ [])) 5 (r.start_mark ∷ [])) 6 (bytes_of 2 r.ordinal) ≡ put z 0 (codes_bytes r)
+    → put (put (put (put (put (put z 0 (bytes_of 2 slot_mark)) 2 (r.record_type.0 ∷ [])) 3 (r.direction.0 ∷ [])) 4
+    (r.qualification ∷ [])) 5 (r.start_mark.0 ∷ [])) 6 (bytes_of 2 r.ordinal) ≡ put z 0 (codes_bytes r)
 unfolding put bytes_of codes_bytes
 codes-put z r = refl
 
@@ -30,11 +30,11 @@ unfolding put bytes_of times_bytes
 times-put z r count = refl
 
 row_put : (z : List ℕ) (row : Row)
-    → put (put (put z 7 (row.state ∷ [])) 8 (row.qualification ∷ [])) 12 (bytes_of 4 row.since.0) ≡ put_row z row
+    → put (put (put z 7 (row.state.0 ∷ [])) 8 (row.qualification ∷ [])) 12 (bytes_of 4 row.since.0) ≡ put_row z row
 unfolding put bytes_of put_row
 row_put z row = refl
 
-pub row_written : (z : List ℕ) (row : Row) {x y w : List ℕ} → x ≡ put z 7 (row.state ∷ [])
+pub row_written : (z : List ℕ) (row : Row) {x y w : List ℕ} → x ≡ put z 7 (row.state.0 ∷ [])
     → y ≡ put x 8 (row.qualification ∷ []) → w ≡ put y 12 (bytes_of 4 row.since.0) → w ≡ put_row z row
 row_written z row {x} {y} {w} e f g = g ∙ rw (f, e) (row_put z row)
 

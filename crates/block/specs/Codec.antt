@@ -25,12 +25,12 @@ put_powers b p =
 -- a unit's head
 unfoldable pub put_unit_head : List ℕ → UnitHead → List ℕ
 put_unit_head b h =
-    put_powers (put_last_stamp (put_row (put_unit b h.unit h.owner h.kind) h.row) h.last_stamp.0) h.powers
+    put_powers (put_last_stamp (put_row (put_unit b h.unit h.owner h.kind.0) h.row) h.last_stamp.0) h.powers
 
 -- bytes 0 to 7 of a slot, and 24 to 37
 unfoldable pub codes_bytes : Record → List ℕ
 codes_bytes r =
-    bytes_of 2 slot_mark ++ (r.record_type ∷ r.direction ∷ r.qualification ∷ r.start_mark ∷ []) ++ bytes_of 2 r.ordinal
+    bytes_of 2 slot_mark ++ (r.record_type.0 ∷ r.direction.0 ∷ r.qualification ∷ r.start_mark.0 ∷ []) ++ bytes_of 2 r.ordinal
 
 unfoldable pub times_bytes : Record → ℕ → List ℕ
 times_bytes r count =

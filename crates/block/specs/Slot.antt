@@ -38,10 +38,10 @@ pub record PowersWithin (z : List ℕ) (k bound : ℕ) : Type 0 where
 unfoldable pub holds_alone : ℕ → Minute → Record → Bool
 holds_alone kind last r =
     every
-    (between stop off_grid r.record_type
+    (between stop off_grid r.record_type.0
     ∷ fields_in_range r []
     ∷ kind_allows kind r
-    ∷ (not (eqb r.record_type off_grid) || begun r)
+    ∷ (not (eqb r.record_type.0 off_grid) || begun r)
     ∷ ltb r.period.start.0 r.period.end.0
     ∷ leb r.stamp.0 last.0
     ∷ (not (begun r) || leb r.period.start.0 r.stamp.0)

@@ -19,11 +19,9 @@ ghost use Rattle.block.specs.Slot.{stretch_size, pair_at, ends_rise, PowersWithi
 
 use fields::{bytes_at, chunk_at, put_bytes, put_u8, put_u16, u8_at, u16_at};
 use quantities::{Kilowatt, Minute, Period, kilowatt_at, minute_at, put_kilowatt, put_minute};
-use records::{
-    OFF_GRID, STOP, choose, fields_in_range, has_begun, is_levelled, kind_allows, within,
-};
-use report::MOST_PARTS;
-use rules::{PowerRange, Powers, Record, RosterEntry, Row, UnitHead};
+use records::{choose, fields_in_range, has_begun, is_levelled, kind_allows};
+use report::{Direction, MOST_PARTS, Mark, RecordType};
+use rules::{Kind, PowerRange, Powers, Record, RosterEntry, Row, State, UnitHead};
 
 // A block's head, and its slots, each of fields and pairs.
 pub const HEAD_SIZE: usize = 64;
@@ -93,14 +91,14 @@ pub fn entry_of(s: &[u8]) -> RosterEntry
 {
     let since = minute_at(s, 8);
     let row = Row {
-        state: u8_at(s, 5),
+        state: State(u8_at(s, 5)),
         qualification: u8_at(s, 6),
         since,
     };
     let powers = powers_at(s, 12);
     RosterEntry {
         owner: u16_at(s, 2),
-        kind: u8_at(s, 4),
+        kind: Kind(u8_at(s, 4)),
         row,
         powers,
     }
@@ -112,7 +110,7 @@ pub fn unit_head(b: &[u8]) -> UnitHead
     let head = bytes_at::<48>(b, 0);
     let since = minute_at(&head, 12);
     let row = Row {
-        state: head[7],
+        state: State(head[7]),
         qualification: head[8],
         since,
     };
@@ -121,7 +119,7 @@ pub fn unit_head(b: &[u8]) -> UnitHead
     UnitHead {
         unit: u16_at(&head, 2),
         owner: u16_at(&head, 4),
-        kind: head[6],
+        kind: Kind(head[6]),
         row,
         last_stamp,
         powers,
@@ -149,10 +147,10 @@ pub fn record_in(z: &[u8]) -> Record
     let stamp = minute_at(&slot, 24);
     let period = quantities::period_at(&slot, 28);
     Record {
-        record_type: slot[2],
-        direction: slot[3],
+        record_type: RecordType(slot[2]),
+        direction: Direction(slot[3]),
         qualification: slot[4],
-        start_mark: slot[5],
+        start_mark: Mark(slot[5]),
         ordinal: u16_at(&slot, 6),
         identifier,
         stamp,
@@ -183,14 +181,23 @@ fn pair_in(pair: &[u8]) -> Pair
     Pair { end, power }
 }
 
-// Pair j of a slot, from 0: read where it lies, or in a copy with zeros past the slot's end, as a part of a report is.
+// Pair j of a slot that ends before it does, with zeros past the end.
+#[cold]
+fn pair_past_end(z: &[u8], j: u16) -> Pair
+    ensures { result ≡ pair_at z.now j }
+{
+    let at = PAIRS_START + PAIR_SIZE * (j as usize);
+    pair_in(&bytes_at::<PAIR_SIZE>(z, at))
+}
+
+// Pair j of a slot, from 0, read where it lies, as a part of a report is.
 pub fn pair_at(z: &[u8], j: u16) -> Pair
     ensures { result ≡ pair_at z.now j }
 {
     let at = PAIRS_START + PAIR_SIZE * (j as usize);
     match chunk_at::<PAIR_SIZE>(z, at) {
         Some(pair) => pair_in(pair),
-        None => pair_in(&bytes_at::<PAIR_SIZE>(z, at)),
+        None => pair_past_end(z, j),
     }
 }
 
@@ -275,21 +282,21 @@ fn pairs_fit(z: &[u8], k: u16, period: Period) -> bool
 }
 
 // What question 1 asks of a record, but for its parts.
-fn holds_alone(kind: u8, last: Minute, r: Record) -> bool
-    ensures { result ≡ holds_alone kind last r }
+fn holds_alone(kind: Kind, last: Minute, r: Record) -> bool
+    ensures { result ≡ holds_alone kind.0 last r }
 {
-    within(STOP, OFF_GRID, r.record_type)
+    ((RecordType::STOP <= r.record_type) & (r.record_type <= RecordType::OFF_GRID))
         & fields_in_range(r)
         & kind_allows(kind, r)
-        & (!(r.record_type == OFF_GRID) | has_begun(r))
+        & (!(r.record_type == RecordType::OFF_GRID) | has_begun(r))
         & (r.period.start < r.period.end)
         & (r.stamp <= last)
         & (!has_begun(r) | (r.period.start <= r.stamp))
 }
 
-fn slot_whole(kind: u8, last: Minute, z: &[u8]) -> bool
+fn slot_whole(kind: Kind, last: Minute, z: &[u8]) -> bool
     requires { length z.now ≡ slot_size }
-    ensures { result ≡ slot_whole kind last z.now }
+    ensures { result ≡ slot_whole kind.0 last z.now }
 {
     if is_used(z) {
         let k = stored_count(z);
@@ -325,10 +332,10 @@ fn free_from(b: &[u8]) -> u8
 }
 
 // The free slots at the end are zeros in one stretch.
-fn slots_whole(kind: u8, last: Minute, b: &[u8], end: u8) -> bool
+fn slots_whole(kind: Kind, last: Minute, b: &[u8], end: u8) -> bool
     requires b_len { length b.now ≡ block_size }
     requires free_from { FreeFrom b.now end }
-    ensures { result ≡ all (λ i. slot_whole kind last (slot_at b.now i)) (series (λ i. i) 0 slot_count) }
+    ensures { result ≡ all (λ i. slot_whole kind.0 last (slot_at b.now i)) (series (λ i. i) 0 slot_count) }
 {
     for i in 0..SLOT_COUNT {
         if end <= i {
@@ -526,19 +533,19 @@ pub fn clear(b: &mut [u8])
     b.fill(0);
 }
 
-fn put_unit(b: &mut [u8], unit: u16, owner: u16, kind: u8)
-    ensures { b.new ≡ put_unit b.old unit owner kind }
+fn put_unit(b: &mut [u8], unit: u16, owner: u16, kind: Kind)
+    ensures { b.new ≡ put_unit b.old unit owner kind.0 }
 {
     put_u16(b, 0, 0x4E55);
     put_u16(b, 2, unit);
     put_u16(b, 4, owner);
-    put_u8(b, 6, kind);
+    put_u8(b, 6, kind.0);
 }
 
 pub fn put_row(b: &mut [u8], row: Row)
     ensures { b.new ≡ put_row b.old row }
 {
-    put_u8(b, 7, row.state);
+    put_u8(b, 7, row.state.0);
     put_u8(b, 8, row.qualification);
     put_minute(b, 12, row.since);
 }
@@ -572,10 +579,10 @@ fn put_codes(z: &mut [u8], r: Record)
     ensures { z.new ≡ put z.old 0 (codes_bytes r) }
 {
     put_u16(z, 0, 0x475A);
-    put_u8(z, 2, r.record_type);
-    put_u8(z, 3, r.direction);
+    put_u8(z, 2, r.record_type.0);
+    put_u8(z, 3, r.direction.0);
     put_u8(z, 4, r.qualification);
-    put_u8(z, 5, r.start_mark);
+    put_u8(z, 5, r.start_mark.0);
     put_u16(z, 6, r.ordinal);
 }
 

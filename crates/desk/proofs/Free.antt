@@ -42,7 +42,7 @@ block-free unit b e = record
       asked i h f =
           let slots = (every_true _ e).1.1.1.1.1.1.0 in
           let here =
-          all-at (λ i. slot_whole (unit_head b).kind (unit_head b).last_stamp (slot_at b i)) (λ i. i) 0 slot_count i slots (omega arith)
+          all-at (λ i. slot_whole (unit_head b).kind.0 (unit_head b).last_stamp (slot_at b i)) (λ i. i) 0 slot_count i slots (omega arith)
           (omega arith) in
           rw f at here
 

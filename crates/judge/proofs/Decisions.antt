@@ -246,11 +246,11 @@ module _ (b s : List ℕ) where
   abbrev limits : ℕ
   limits =
       limit_number (head_of s) (question15 b s) (question16 (unit_head b).powers (head_of s) (parts_of s))
-      (question17 (unit_head b).kind (unit_head b).powers (reported_records b s) (head_of s))
+      (question17 (unit_head b).kind.0 (unit_head b).powers (reported_records b s) (head_of s))
       (question18 (changes_state b s) (unit_head b).row (head_of s)) (question19 (head_of s) (free_slot b s)) 0
 
   abbrev validation : ℕ
-  validation = validation_number (unit_head b).kind (head_of s) (parts_of s) 0
+  validation = validation_number (unit_head b).kind.0 (head_of s) (parts_of s) 0
 
   abbrev held : ℕ
   held = held_number (unit_head b).last_stamp (head_of s) (holder b s) (held_record b s) 0
@@ -258,7 +258,7 @@ module _ (b s : List ℕ) where
   number_by : refusal_number b s ≡ pick (eqb validation 0) (pick (eqb held 0) limits held) validation
   unfolding refusal_number
   number_by =
-      validation-next (unit_head b).kind (head_of s) (parts_of s) _
+      validation-next (unit_head b).kind.0 (head_of s) (parts_of s) _
       ∙ ap (λ (n : ℕ). pick (eqb validation 0) n validation)
       (held_next (unit_head b).last_stamp (head_of s) (holder b s) (held_record b s) _)
 
@@ -327,7 +327,7 @@ module _ (b s : List ℕ) where
           ap (λ (x : Refusal). Err x) stopped.1 ∙ outcome-no held _ stopped.0
           ∙ decides-by number (held-names-none (unit_head b).last_stamp (head_of s) (holder b s) (held_record b s))
 
-      pub decides : {y : ⊤} {changes : Bool} → asked-next ≡ Ok y → changes ≡ changes_by unit.kind h x
+      pub decides : {y : ⊤} {changes : Bool} → asked-next ≡ Ok y → changes ≡ changes_by unit.kind.0 h x
           → limits_decided b s h unit slot changes deratings ≡ decision_of b s
       unfolding pick question16 changes_state
       decides {y} {changes} e c =

@@ -132,14 +132,14 @@ minutes-asked h q17 {passed_over} {minutes} e f = by-case (skips h 17) refl wher
   by-case false k = rw (f, e, k)
 
 -- the sweep of question 17
-module _ (h : Head) (unit : UnitHead) (ws : List FullRecord) {t : Bool} (asked : t ≡ is_levelled h.record_type) where
-  pub minutes-skipped : t ≡ false → true ≡ question17 unit.kind unit.powers ws h
+module _ (h : Head) (unit : UnitHead) (ws : List FullRecord) {t : Bool} (asked : t ≡ is_levelled h.record_type.0) where
+  pub minutes-skipped : t ≡ false → true ≡ question17 unit.kind.0 unit.powers ws h
   unfolding question17
   minutes-skipped n = rw (sym asked ∙ n)
 
-  pub minutes-swept : {r : PowerRange} {ok : Bool} → t ≡ true → r ≡ range_of unit.powers h.direction
-      → ok ≡ levels_every (levels_fit unit.kind r) ws h.direction h.period.start.0 h.period.end.0
-      → ok ≡ question17 unit.kind unit.powers ws h
+  pub minutes-swept : {r : PowerRange} {ok : Bool} → t ≡ true → r ≡ range_of unit.powers h.direction.0
+      → ok ≡ levels_every (levels_fit unit.kind.0 r) ws h.direction.0 h.period.start.0 h.period.end.0
+      → ok ≡ question17 unit.kind.0 unit.powers ws h
   unfolding question17
   minutes-swept n q p = p ∙ rw (q, sym asked ∙ n)
 

@@ -33,7 +33,7 @@ module _ (after : List ℕ) (r : Record) (i : ℕ) {z : List ℕ} {u : Bool} (re
   no-overlap n = rw (← read, sym asked ∙ n)
 
   pub overlap-join : {x : Record} {o m p : Bool} → u ≡ true → x ≡ record_in z → o ≡ one_stop_one_levelled r x
-      → m ≡ meet r.direction x.direction → p ≡ overlap r.period x.period → (o && m && p) ≡ overlap_at after r i
+      → m ≡ meet r.direction.0 x.direction.0 → p ≡ overlap r.period x.period → (o && m && p) ≡ overlap_at after r i
   overlap-join n f b c d = rw (b, c, d, f, ← read, sym asked ∙ n)
 
 pub warns-join : (after : List ℕ) (h : Head) {r : Record} {none : Bool} → r ≡ record_by h
@@ -48,29 +48,29 @@ block-counted b =
     (λ j x y. series-at (λ i. used (slot_at b i)) 0 8 j false (omega arith) ∙ ap (λ (k : ℕ). used (slot_at b k)) (zero-add j))
 
 module _ (after : List ℕ) (h : Head) where
-  pub minutes-warn : {counted : List Bool} {u : UnitHead} {r : PowerRange} {g : LevelWarnings} {x y : ℕ} → h.record_type ≡ 4
-      → counted ≡ series (λ i. used (slot_at after i)) 0 8 → u ≡ unit_head after → r ≡ range_of u.powers h.direction
-      → g ≡ level_warnings u.kind r (counted_records after counted) h.direction h.period.start.0 h.period.end.0
+  pub minutes-warn : {counted : List Bool} {u : UnitHead} {r : PowerRange} {g : LevelWarnings} {x y : ℕ} → h.record_type.0 ≡ 4
+      → counted ≡ series (λ i. used (slot_at after i)) 0 8 → u ≡ unit_head after → r ≡ range_of u.powers h.direction.0
+      → g ≡ level_warnings u.kind.0 r (counted_records after counted) h.direction.0 h.period.start.0 h.period.end.0
       → x ≡ worth 2 g.above → y ≡ worth 4 g.below → x + y ≡ minute_warnings after h
   unfolding warns_minute level_warnings
   minutes-warn {counted} {u} {r} {g} {x} {y} t c f q p a b =
-      let forced = eq-eqb h.record_type 4 t in
+      let forced = eq-eqb h.record_type.0 4 t in
       let above : g.above ≡ warns_minute above_max after h = ap (λ (g : LevelWarnings). g.above) p ∙ rw
       (forced, c, block-counted after, q, f) in
       let below : g.below ≡ warns_minute below_min after h = ap (λ (g : LevelWarnings). g.below) p ∙ rw
       (forced, c, block-counted after, q, f) in
       rw (a, b, above, below)
 
-  pub minutes-silent : (h.record_type ≡ 4 → ⊥) → 0 ≡ minute_warnings after h
+  pub minutes-silent : (h.record_type.0 ≡ 4 → ⊥) → 0 ≡ minute_warnings after h
   unfolding warns_minute pick
-  minutes-silent ne = rw (ne_eqb h.record_type 4 ne)
+  minutes-silent ne = rw (ne_eqb h.record_type.0 4 ne)
 
   pub no-warnings : (left : Bool) {v : Bool} → v ≡ vacates h → (event_head h || v) ≡ true → 0 ≡ warnings_on after h left
   unfolding warnings_on pick
   no-warnings left e t = rw (rw e at t)
 
   pub all-warnings : (left : Bool) {v : Bool} {x y z : ℕ} → v ≡ vacates h → (event_head h || v) ≡ false
-      → x ≡ worth 1 (warns_overlap after h) → y ≡ worth 8 (eqb h.record_type 1 && left) → z ≡ minute_warnings after h
+      → x ≡ worth 1 (warns_overlap after h) → y ≡ worth 8 (eqb h.record_type.0 1 && left) → z ≡ minute_warnings after h
       → x + z + y ≡ warnings_on after h left
   unfolding warnings_on pick
   all-warnings left e t a b c = rw (a, b, c, rw e at t)

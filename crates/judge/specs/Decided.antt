@@ -34,8 +34,8 @@ Err refusal then next = Err refusal
 unfoldable pub holder_asked : Minute → Head → Bool → Record → Result ⊤ Refusal
 holder_asked last h is_held held =
     must h 10 (question10 last h)
-    then must h 11 (not (eqb h.operation create) || not is_held)
-    then must h 12 (eqb h.operation create || is_held)
+    then must h 11 (not (eqb h.operation.0 create) || not is_held)
+    then must h 12 (eqb h.operation.0 create || is_held)
     then must h 13 (question13 h held)
     then must h 14 (question14 h held)
 
@@ -44,7 +44,7 @@ unfoldable pub limits_asked : List ℕ → List ℕ → Head → UnitHead → Li
 limits_asked b s h unit slots changes deratings =
     must h 15 (list_all (λ a. a.closed) slots)
     then must h 16 deratings
-    then must h 17 (question17 unit.kind unit.powers (swept_records b s (map (λ a. a.other) slots) true) h)
+    then must h 17 (question17 unit.kind.0 unit.powers (swept_records b s (map (λ a. a.other) slots) true) h)
     then must h 18 (question18 changes unit.row h)
     then must h 19 (not (creation_head h) || is_some (free_among slots))
 

@@ -15,7 +15,7 @@ unfoldable pub holder_of : List ℕ → Record → ℕ
 holder_of b r = seek (λ i. live b r.stamp.0 i && same_identifier r (record_at b i)) 0 slot_count
 
 abbrev pub other_by : Head → Option ℕ → Bool → ℕ → Bool
-other_by h slot is_live i = is_live && not (eqb h.operation change && is_slot slot i)
+other_by h slot is_live i = is_live && not (eqb h.operation.0 change && is_slot slot i)
 
 abbrev pub leaves_by : Head → Option ℕ → Bool → Bool → Record → ℕ → Bool
 leaves_by h slot changes is_live x i = other_by h slot is_live i && must_leave h changes x

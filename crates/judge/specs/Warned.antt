@@ -13,7 +13,7 @@ use Rattle.rules.specs.After.{one_stop_one_levelled, warns_overlap, warns_minute
 -- warning 1, of one slot
 abbrev pub overlap_at : List ℕ → Record → ℕ → Bool
 overlap_at after r i =
-    used (slot_at after i) && one_stop_one_levelled r (record_at after i) && meet r.direction (record_at after i).direction
+    used (slot_at after i) && one_stop_one_levelled r (record_at after i) && meet r.direction.0 (record_at after i).direction.0
     && overlap r.period (record_at after i).period
 
 abbrev pub minute_warnings : List ℕ → Head → ℕ
@@ -22,4 +22,4 @@ minute_warnings after h = worth 2 (warns_minute above_max after h) + worth 4 (wa
 unfoldable pub warnings_on : List ℕ → Head → Bool → ℕ
 warnings_on after h left =
     pick (event_head h || vacates h) 0
-    (worth 1 (warns_overlap after h) + minute_warnings after h + worth 8 (eqb h.record_type stop && left))
+    (worth 1 (warns_overlap after h) + minute_warnings after h + worth 8 (eqb h.record_type.0 stop && left))

@@ -19,9 +19,9 @@ ghost use Rattle.judge.specs.Warned.{overlap_at, minute_warnings, warnings_on};
 use block::SLOT_COUNT;
 use levels::{Limits, Swept};
 use quantities::Minute;
-use records::{CHANGE, CREATE, EVENT, EXECUTED, FORCED_WORK, OFF_GRID, STOP, W1, WITHDRAW, must};
-use report::Head;
-use rules::{Record, Refusal, Row, UnitHead};
+use records::must;
+use report::{Head, Mark, Operation, RecordType};
+use rules::{Kind, Record, Refusal, Row, UnitHead};
 
 // What is asked of a slot from question 15 on: does it count beside the report, is its clash with the report closed,
 // does its record leave, does it stay, is the slot cleared.
@@ -85,7 +85,7 @@ fn held_record(b: &[u8], slot: Option<u8>) -> Record
 fn is_of_holder(h: Head, held: Record) -> bool
     ensures { result ≡ question13 h held }
 {
-    (h.operation == CREATE)
+    (h.operation == Operation::CREATE)
         | ((h.record_type == held.record_type)
             & (h.direction == held.direction)
             & (h.qualification == held.qualification)
@@ -96,12 +96,12 @@ fn is_of_holder(h: Head, held: Record) -> bool
 fn may_move(h: Head, held: Record) -> bool
     ensures { result ≡ question14 h held }
 {
-    (h.operation == CREATE)
+    (h.operation == Operation::CREATE)
         | records::choose(
-            held.start_mark == EXECUTED,
-            (h.operation == CHANGE)
+            held.start_mark == Mark::EXECUTED,
+            (h.operation == Operation::CHANGE)
                 & (h.period.start.0 == held.period.start.0)
-                & (h.start_mark == EXECUTED),
+                & (h.start_mark == Mark::EXECUTED),
             !records::ends_early(h),
         )
 }
@@ -110,7 +110,7 @@ fn may_move(h: Head, held: Record) -> bool
 fn ask_holder(last: Minute, h: Head, is_held: bool, held: Record) -> Result<(), Refusal>
     ensures { result ≡ holder_asked last h is_held held }
 {
-    let creates = h.operation == CREATE;
+    let creates = h.operation == Operation::CREATE;
     must(h, 10, last <= h.stamp)?;
     must(h, 11, !creates | !is_held)?;
     must(h, 12, creates | is_held)?;
@@ -121,22 +121,22 @@ fn ask_holder(last: Minute, h: Head, is_held: bool, held: Record) -> Result<(), 
 fn begins(h: Head, held: Record) -> bool
     ensures { result ≡ begins_by h held }
 {
-    (h.start_mark == EXECUTED)
-        & ((h.record_type == STOP) | (h.record_type == OFF_GRID))
-        & ((h.operation == CREATE) | ((h.operation == CHANGE) & !(held.start_mark == EXECUTED)))
+    (h.start_mark == Mark::EXECUTED)
+        & ((h.record_type == RecordType::STOP) | (h.record_type == RecordType::OFF_GRID))
+        & ((h.operation == Operation::CREATE) | ((h.operation == Operation::CHANGE) & !(held.start_mark == Mark::EXECUTED)))
 }
 
-fn changes_state(kind: u8, h: Head, held: Record) -> bool
-    ensures { result ≡ changes_by kind h held }
+fn changes_state(kind: Kind, h: Head, held: Record) -> bool
+    ensures { result ≡ changes_by kind.0 h held }
 {
-    (kind == W1) & ((h.record_type == EVENT) | begins(h, held))
+    (kind == Kind::W1) & ((h.record_type == RecordType::EVENT) | begins(h, held))
 }
 
 fn must_leave(h: Head, changes: bool, x: Record) -> bool
     ensures { result ≡ must_leave h changes x }
 {
     let r = records::record_by(h);
-    (!(h.operation == WITHDRAW) & records::records_clash(r, x) & records::record_closes(r, x))
+    (!(h.operation == Operation::WITHDRAW) & records::records_clash(r, x) & records::record_closes(r, x))
         | (changes & records::holds_state(x))
 }
 
@@ -151,7 +151,7 @@ fn slot_answers(
     ensures { result ≡ answers_of h slot changes true is_live x i }
 {
     let r = records::record_by(h);
-    let other = is_live & !((h.operation == CHANGE) & (Some(i) == slot));
+    let other = is_live & !((h.operation == Operation::CHANGE) & (Some(i) == slot));
     let closed = !(other & records::records_clash(r, x)) | records::record_closes(r, x);
     let leaves = other & must_leave(h, changes, x);
     let stays = is_live & !leaves & !(records::vacates_slot(h) & (Some(i) == slot));
@@ -217,7 +217,7 @@ fn minutes_fit(
     others: [bool; 8],
     is_asked: bool,
 ) -> bool
-    ensures { result ≡ pick is_asked (question17 unit.kind unit.powers (swept_records b.now report.now others true) h) true }
+    ensures { result ≡ pick is_asked (question17 unit.kind.0 unit.powers (swept_records b.now report.now others true) h) true }
 {
     if !is_asked {
         return true;
@@ -240,9 +240,9 @@ fn minutes_fit(
 fn slot_written(h: Head, slot: Option<u8>, free: Option<u8>) -> Option<u8>
     ensures { result ≡ written_by h slot free }
 {
-    if (h.operation == CREATE) & !(h.record_type == EVENT) {
+    if (h.operation == Operation::CREATE) & !(h.record_type == RecordType::EVENT) {
         free
-    } else if (h.operation == CHANGE) & !records::ends_early(h) {
+    } else if (h.operation == Operation::CHANGE) & !records::ends_early(h) {
         slot
     } else {
         None
@@ -282,7 +282,7 @@ fn ask_minutes(
     unit: UnitHead,
     others: [bool; 8],
 ) -> Result<(), Refusal>
-    ensures { result ≡ must h 17 (question17 unit.kind unit.powers (swept_records b.now report.now others true) h) }
+    ensures { result ≡ must h 17 (question17 unit.kind.0 unit.powers (swept_records b.now report.now others true) h) }
 {
     let is_asked = !records::skips_question(h, 17);
     must(h, 17, minutes_fit(b, report, h, unit, others, is_asked))
@@ -300,7 +300,7 @@ fn ask_limits(
 ) -> Result<(), Refusal>
     ensures { result ≡ limits_asked b.now report.now h unit slots changes deratings }
 {
-    let creates = (h.operation == CREATE) & !(h.record_type == EVENT);
+    let creates = (h.operation == Operation::CREATE) & !(h.record_type == RecordType::EVENT);
     must(h, 15, all_closed(slots))?;
     must(h, 16, deratings)?;
     ask_minutes(b, report, h, unit, others_of(slots))?;
@@ -349,7 +349,7 @@ fn one_stop_one_levelled(x: Record, y: Record) -> bool
 {
     let x_levelled = records::is_levelled(x.record_type);
     let y_levelled = records::is_levelled(y.record_type);
-    (x_levelled & (y.record_type == STOP)) | ((x.record_type == STOP) & y_levelled)
+    (x_levelled & (y.record_type == RecordType::STOP)) | ((x.record_type == RecordType::STOP) & y_levelled)
 }
 
 // Warning 1, of slot i.
@@ -397,7 +397,7 @@ fn worth_of(n: u8, t: bool) -> u8
 fn minute_warnings(after: &[u8], h: Head) -> u8
     ensures { (result ≡ minute_warnings after.now h) × (result ≤ 6) }
 {
-    if h.record_type != FORCED_WORK {
+    if h.record_type != RecordType::FORCED_WORK {
         return 0;
     }
     let counted = used_slots(after);
@@ -414,10 +414,10 @@ fn minute_warnings(after: &[u8], h: Head) -> u8
 pub fn warnings_on(after: &[u8], h: Head, left: bool) -> u8
     ensures { result ≡ warnings_on after.now h left }
 {
-    if (h.record_type == EVENT) | records::vacates_slot(h) {
+    if (h.record_type == RecordType::EVENT) | records::vacates_slot(h) {
         return 0;
     }
     let overlap = worth_of(1, warns_overlap(after, h));
-    let left_by_stop = worth_of(8, (h.record_type == STOP) & left);
+    let left_by_stop = worth_of(8, (h.record_type == RecordType::STOP) & left);
     overlap + minute_warnings(after, h) + left_by_stop
 }

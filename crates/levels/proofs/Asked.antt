@@ -184,16 +184,16 @@ module _ (test : ℕ → Bool) (period h : Period) (passes : (m : ℕ) → perio
 module _ (ls : Lanes) (ws : List FullRecord) (direction : ℕ) (period : Period) (u : Limits)
     (same : (m : ℕ) → lane_levels ls m ≡ levels_at ws direction m) {p n : Option Extremes}
     (cp : CoversType ls 2 period p) (cn : CoversType ls 3 period n) {passes : Kilowatt → Type 0}
-    (means : (k : Kilowatt) → passes k → fits_beside u.kind u.range k.0 (highest_of p) (highest_of n) ≡ true) {h : Period}
+    (means : (k : Kilowatt) → passes k → fits_beside u.kind.0 u.range k.0 (highest_of p) (highest_of n) ≡ true) {h : Period}
     (asked : AsksType ls forced_work period passes h) where
   abbrev Fits : Levels → Type 0
-  Fits l = levels_fit u.kind u.range l ≡ true
+  Fits l = levels_fit u.kind.0 u.range l ≡ true
 
   fit-or-asked : (m : ℕ) (f x y : Option Kilowatt) → CoversIfSome p x → CoversIfSome n y → Asks passes h m f
       → Fits (record { forced = f; positive = x; negative = y }) ⊎ MinuteIn h m
-  fit-or-asked m None x y a b asks = inl (fits-alone u.range p n x y a b u.kind None refl)
+  fit-or-asked m None x y a b asks = inl (fits-alone u.range p n x y a b u.kind.0 None refl)
   fit-or-asked m (Some f) x y a b asks =
-      ⊎_elim (λ q. inl (fits-alone u.range p n x y a b u.kind (Some f) (means f q))) (λ q. inr q) asks
+      ⊎_elim (λ q. inl (fits-alone u.range p n x y a b u.kind.0 (Some f) (means f q))) (λ q. inr q) asks
 
   at-minute : (m : ℕ) → period.start.0 ≤ m → m < period.end.0 → Fits (levels_at ws direction m) ⊎ MinuteIn h m
   unfolding lane_levels
@@ -202,8 +202,8 @@ module _ (ls : Lanes) (ws : List FullRecord) (direction : ℕ) (period : Period)
       (fit-or-asked m _ _ _ (cp.covers m a o) (cn.covers m a o) (asked.asks m a o))
 
   pub asked-enough : {g : SweepResult} → g ≡ found_in (lane_levels ls) u (common period h).start.0 (common period h).end.0
-      → g.fits ≡ levels_every (levels_fit u.kind u.range) ws direction period.start.0 period.end.0
+      → g.fits ≡ levels_every (levels_fit u.kind.0 u.range) ws direction period.start.0 period.end.0
   unfolding levels_every found_in
   asked-enough e =
       ap (λ (g : SweepResult). g.fits) (e ∙ found-same u _ _ same)
-      ∙ narrowed (λ m. levels_fit u.kind u.range (levels_at ws direction m)) period h at-minute
+      ∙ narrowed (λ m. levels_fit u.kind.0 u.range (levels_at ws direction m)) period h at-minute

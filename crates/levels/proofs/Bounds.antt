@@ -197,21 +197,21 @@ module _ (range : PowerRange) (ep en : Option Extremes) (p n : Option Kilowatt) 
 module _ (ls : Lanes) (ws : List FullRecord) (direction : ℕ) (period : Period) (u : Limits)
     (same : (m : ℕ) → lane_levels ls m ≡ levels_at ws direction m) where
   abbrev Every : Type 0
-  Every = true ≡ levels_every (levels_fit u.kind u.range) ws direction period.start.0 period.end.0
+  Every = true ≡ levels_every (levels_fit u.kind.0 u.range) ws direction period.start.0 period.end.0
 
-  each : ((k : ℕ) → period.start.0 ≤ k → k < period.end.0 → levels_fit u.kind u.range (lane_levels ls k) ≡ true) → Every
+  each : ((k : ℕ) → period.start.0 ≤ k → k < period.end.0 → levels_fit u.kind.0 u.range (lane_levels ls k) ≡ true) → Every
   unfolding levels_every
   each h =
       sym
-      (all-intro (λ m. levels_fit u.kind u.range (levels_at ws direction m)) (λ m. m) period.start.0
+      (all-intro (λ m. levels_fit u.kind.0 u.range (levels_at ws direction m)) (λ m. m) period.start.0
       (period.end.0 - period.start.0)
-      (λ k a o. ap (levels_fit u.kind u.range) (sym (same k)) ∙ h k a (omega arith)))
+      (λ k a o. ap (levels_fit u.kind.0 u.range) (sym (same k)) ∙ h k a (omega arith)))
 
   pub fits-extremes : {f : Extremes} {p n : Option Extremes} {t : Bool} → CoversType ls 4 period (Some f) → CoversType ls 2 period p
       → CoversType ls 3 period n → t ≡ extremes_fit u f (highest_of p) (highest_of n) → t ≡ true → Every
   unfolding lane_levels
   fits-extremes {f} {p} {n} cf cp cn q t =
-      each (λ k a o. extremes-levels u.range p n _ _ (cp.covers k a o) (cn.covers k a o) u.kind f _ (cf.covers k a o) (sym q ∙ t))
+      each (λ k a o. extremes-levels u.range p n _ _ (cp.covers k a o) (cn.covers k a o) u.kind.0 f _ (cf.covers k a o) (sym q ∙ t))
 
   -- no minute has a forced level
   pub fits-unforced : CoversType ls 4 period None → Every

@@ -117,24 +117,24 @@ module _ (ls : Lanes) where
       }
 
       module _ {lane : Lane} (here : lane_in ls i ≡ Some lane) where
-        pub looked-past : (lane.record_type ≡ type → ⊥) → Looked (i + 1) m until
+        pub looked-past : (lane.record_type.0 ≡ type → ⊥) → Looked (i + 1) m until
         unfolding lane_level pick
         looked-past ne = record {
           most = omega arith;
           later = h.later;
-          rest = λ k a b. h.rest k a b ∙ on i k l ∙ rw (here, ne_eqb lane.record_type type ne);
+          rest = λ k a b. h.rest k a b ∙ on i k l ∙ rw (here, ne_eqb lane.record_type.0 type ne);
         }
 
-        module _ {f : ℕ → Pair} (read : f ≡ lane_pair ls i) (own : lane.record_type ≡ type) where
-          of-type : {v : Option Kilowatt} (k : ℕ) → lane_level lane f lane.record_type k ≡ v
+        module _ {f : ℕ → Pair} (read : f ≡ lane_pair ls i) (own : lane.record_type.0 ≡ type) where
+          of-type : {v : Option Kilowatt} (k : ℕ) → lane_level lane f lane.record_type.0 k ≡ v
               → level_if_lane (lane_in ls i) (lane_pair ls i) type k ≡ v
           of-type k e =
               ap (λ (l : Option Lane). level_if_lane l (lane_pair ls i) type k) here
               ∙ ap (λ (type : ℕ). lane_level lane (lane_pair ls i) type k) (sym own)
-              ∙ ap (λ (f : ℕ → Pair). lane_level lane f lane.record_type k) (sym read)
+              ∙ ap (λ (f : ℕ → Pair). lane_level lane f lane.record_type.0 k) (sym read)
               ∙ e
 
-          pub looked-miss : {span : LevelSpan} {next : ℕ} → Stays (lane_level lane f lane.record_type) m span
+          pub looked-miss : {span : LevelSpan} {next : ℕ} → Stays (lane_level lane f lane.record_type.0) m span
               → is_some span.level ≡ false → next ≡ min until span.until.0 → Looked (i + 1) m next
           looked-miss {span} {next} p t q =
               let before = h.later in

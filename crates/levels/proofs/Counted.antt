@@ -45,7 +45,7 @@ slot-pairs z i (suc n) m start =
     rw (a, slot-pairs z (i + 1) n m)
 
 -- the lane of a record that counts, where its direction is asked
-lane-level : (t : Bool) (r : Record) (ps : List Part) (f : ℕ → Pair) (k type direction m : ℕ) → eqb r.direction direction ≡ t
+lane-level : (t : Bool) (r : Record) (ps : List Part) (f : ℕ → Pair) (k type direction m : ℕ) → eqb r.direction.0 direction ≡ t
     → level_in ps m ≡ level_among_pairs (series f 0 k) m
     → level_if_lane (lane_of t r k) f type m ≡ level_of (record { fields = r; parts = ps }) type direction m
 unfolding lane_level lane_of level_of pick
@@ -82,7 +82,7 @@ module _ (b s : List ℕ) (swept : Swept) (type direction m : ℕ) where
         } ∷ rest) rest) type direction m
     by-case true =
         ap (λ (v : Option Kilowatt). option_or v (level_among rest type direction m))
-        (lane-level (eqb (record_at b i).direction direction) (record_at b i) (parts_in (slot_at b i)) _ (stored_count
+        (lane-level (eqb (record_at b i).direction.0 direction) (record_at b i) (parts_in (slot_at b i)) _ (stored_count
         (slot_at b i)) type direction m refl
         (slot-pairs (slot_at b i) 0 (stored_count (slot_at b i)) m (record_at b i).period.start))
     by-case false = refl
@@ -99,7 +99,7 @@ module _ (b s : List ℕ) (swept : Swept) (type direction m : ℕ) where
         { fields = record_of s; parts = parts_of s } ∷ slots) slots) type direction m
     by-case true =
         ap (λ (v : Option Kilowatt). option_or v (level_among slots type direction m))
-        (lane-level (eqb (record_of s).direction direction) (record_of s) (parts_of s) _ (part_count_of s) type direction m refl
+        (lane-level (eqb (record_of s).direction.0 direction) (record_of s) (parts_of s) _ (part_count_of s) type direction m refl
         (report-pairs s 0 (part_count_of s) m))
     by-case false = refl
 

@@ -25,16 +25,16 @@ module _ (ls : Lanes) (i type : ℕ) (period : Period) where
   no-lane q k x y = rw q
 
   pub lane-apart : {lane : Lane} {t : Bool} → lane_in ls i ≡ Some lane → t ≡ overlap lane.period period
-      → (eqb lane.record_type type && t) ≡ false → LaneWithin ls i type period None
+      → (eqb lane.record_type.0 type && t) ≡ false → LaneWithin ls i type period None
   unfolding lane_level
   lane-apart {lane} {t} here q apart k x y =
       rw here
       (pick-elim (λ (v : Option Kilowatt). v ≡ None) _ (λ holds. absurd (false≢true (sym apart ∙ shared holds))) (λ _. refl))
     where
-      shared : (eqb lane.record_type type && leb lane.period.start.0 k && ltb k lane.period.end.0) ≡ true
-          → (eqb lane.record_type type && t) ≡ true
+      shared : (eqb lane.record_type.0 type && leb lane.period.start.0 k && ltb k lane.period.end.0) ≡ true
+          → (eqb lane.record_type.0 type && t) ≡ true
       shared holds =
-          let same = eqb lane.record_type type in
+          let same = eqb lane.record_type.0 type in
           let from = leb lane.period.start.0 k in
           let started = leb-true lane.period.start.0 k (and_right same from (and_left (same && from) _ holds)) in
           let ends = ltb-true k lane.period.end.0 (and_right (same && from) _ holds) in
@@ -82,7 +82,7 @@ module _ {S : Type 0} (P : S → ℕ → Option Kilowatt → Type 0) (none : (e 
           (λ k x y. subst (λ (l : Option Lane). P r k (level_if_lane l (lane_pair ls i) type k)) (sym here)
           (pick-elim (λ (v : Option Kilowatt). P r k v) _
           (λ t. subst (λ (f : ℕ → Pair). P r k (level_among_pairs (series f 0 lane.count) k)) read
-          (own k (leb-true lane.period.start.0 k (and_right (eqb lane.record_type type) _ (and_left _ _ t)))))
+          (own k (leb-true lane.period.start.0 k (and_right (eqb lane.record_type.0 type) _ (and_left _ _ t)))))
           (λ t. none r k)))
 
     or-else : (e : S) (k : ℕ) (v w : Option Kilowatt) → P e k v → P e k w → P e k (option_or v w)

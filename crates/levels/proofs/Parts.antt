@@ -68,7 +68,7 @@ module _ {f : ℕ → Pair} {n j m : ℕ} (h : Passed f n j m) where
 
 -- a lane: before its start, from its end on, and between
 module _ (lane : Lane) (f : ℕ → Pair) {m place : ℕ} (h : Passed f lane.count place m) where
-  pub before-start : m < lane.period.start.0 → Stepped f lane.count m (lane_level lane f lane.record_type)
+  pub before-start : m < lane.period.start.0 → Stepped f lane.count m (lane_level lane f lane.record_type.0)
       (record { span = record { level = None; until = lane.period.start }; place = place })
   unfolding lane_level pick
   before-start l = record {
@@ -77,7 +77,7 @@ module _ (lane : Lane) (f : ℕ → Pair) {m place : ℕ} (h : Passed f lane.cou
     ends = λ t. absurd (false≢true t);
   }
 
-  pub past_end : {far : Minute} → lane.period.end.0 ≤ m → m < far.0 → Stepped f lane.count m (lane_level lane f lane.record_type)
+  pub past_end : {far : Minute} → lane.period.end.0 ≤ m → m < far.0 → Stepped f lane.count m (lane_level lane f lane.record_type.0)
       (record { span = record { level = None; until = far }; place = place })
   unfolding lane_level pick
   past_end {far} l o = record {
@@ -89,7 +89,7 @@ module _ (lane : Lane) (f : ℕ → Pair) {m place : ℕ} (h : Passed f lane.cou
 pub within : (lane : Lane) (f : ℕ → Pair) {m : ℕ} {r : LaneSpan} {until : Minute} → lane.period.start.0 ≤ m
     → m < lane.period.end.0 → Stepped f lane.count m (level_among_pairs (series f 0 lane.count)) r
     → until.0 ≡ min r.span.until.0 lane.period.end.0
-    → Stepped f lane.count m (lane_level lane f lane.record_type) (record {
+    → Stepped f lane.count m (lane_level lane f lane.record_type.0) (record {
       span = record { level = r.span.level; until = until };
       place = r.place;
     })
@@ -100,7 +100,7 @@ within lane f {m} {r} {until} a b h s =
       stays = record {
         later = omega arith;
         same = λ k c d. rw (
-          eq-eqb lane.record_type lane.record_type refl,
+          eq-eqb lane.record_type.0 lane.record_type.0 refl,
           le-leb lane.period.start.0 k (omega arith),
           lt-ltb k lane.period.end.0 (omega arith),
         ) (h.stays.same k c (omega arith));
@@ -140,15 +140,15 @@ there-picked false v t = absurd (false≢true t)
 
 -- a lane that has a level at a minute: how long it has one
 module _ {f : ℕ → Pair} (lane : Lane) {m : ℕ} {step : LaneSpan} (t : is_some step.span.level ≡ true) (h : Stepped f
-    lane.count m (lane_level lane f lane.record_type) step) where
+    lane.count m (lane_level lane f lane.record_type.0) step) where
   abbrev holds : ℕ → Bool
-  holds k = eqb lane.record_type lane.record_type && leb lane.period.start.0 k && ltb k lane.period.end.0
+  holds k = eqb lane.record_type.0 lane.record_type.0 && leb lane.period.start.0 k && ltb k lane.period.end.0
 
   held-now : (k : ℕ) → m ≤ k → k < step.span.until.0 → holds k ≡ true
   unfolding lane_level
   held-now k a b = there-picked (holds k) _ (ap (λ (v : Option Kilowatt). is_some v) (h.stays.same k a b) ∙ t)
 
-  held_same : (k : ℕ) → holds k ≡ true → lane_level lane f lane.record_type k ≡ level_among_pairs (series f 0 lane.count) k
+  held_same : (k : ℕ) → holds k ≡ true → lane_level lane f lane.record_type.0 k ≡ level_among_pairs (series f 0 lane.count) k
   unfolding lane_level pick
   held_same k e = rw e
 
@@ -166,7 +166,7 @@ module _ {f : ℕ → Pair} (lane : Lane) {m : ℕ} {step : LaneSpan} (t : is_so
   held-last {p} {until} e l q =
       let place = held_place in
       let now = held-now m (omega arith) h.stays.later in
-      let same = eqb lane.record_type lane.record_type in
+      let same = eqb lane.record_type.0 lane.record_type.0 in
       let from = leb lane.period.start.0 m in
       let started = leb-true lane.period.start.0 m (and_right same from (and_left (same && from) _ now)) in
       let ends = ltb-true m lane.period.end.0 (and_right (same && from) _ now) in
@@ -177,7 +177,7 @@ module _ {f : ℕ → Pair} (lane : Lane) {m : ℕ} {step : LaneSpan} (t : is_so
         later = omega arith;
         there = λ k a b. rw n (there-before f 0 (lane.count - 1) k (omega arith));
         same = λ k a b. held_same k (rw (
-          eq-eqb lane.record_type lane.record_type refl,
+          eq-eqb lane.record_type.0 lane.record_type.0 refl,
           le-leb lane.period.start.0 k (omega arith),
           lt-ltb k lane.period.end.0 (omega arith),
         ));

@@ -27,18 +27,18 @@ module _ (f : ℕ → Levels) (u : Limits) (start : ℕ) where
   unfolding found_in
   found_turn {m} {n} {l} o h =
       λ i. record {
-        fits = every-turn start o (holds_of h (levels_fit u.kind u.range)) i;
-        above = some_turn start o (holds_of h (above_max u.kind u.range)) i;
-        below = some_turn start o (holds_of h (below_min u.kind u.range)) i;
+        fits = every-turn start o (holds_of h (levels_fit u.kind.0 u.range)) i;
+        above = some_turn start o (holds_of h (above_max u.kind.0 u.range)) i;
+        below = some_turn start o (holds_of h (below_min u.kind.0 u.range)) i;
       }
 
   found-join : {h : ℕ → Levels} {m n : ℕ} → start ≤ m → m ≤ n → ((k : ℕ) → m ≤ k → k < n → f k ≡ h k)
       → found_in f u start n ≡ both_found (found_in f u start m) (found_in h u m n)
   unfolding found_in
   found-join {h} {m} {n} a b same =
-      let fit = levels_fit u.kind u.range in
-      let high = above_max u.kind u.range in
-      let low = below_min u.kind u.range in
+      let fit = levels_fit u.kind.0 u.range in
+      let high = above_max u.kind.0 u.range in
+      let low = below_min u.kind.0 u.range in
       λ i. record {
         fits = every-join start m n (λ k. fit (f k)) (λ k. fit (h k)) a b (λ k x y. ap fit (same k x y)) i;
         above = some-join start m n (λ k. high (f k)) (λ k. high (h k)) a b (λ k x y. ap high (same k x y)) i;
@@ -63,9 +63,9 @@ module _ (f : ℕ → Levels) (u : Limits) (start : ℕ) where
     unfolding found_in levels_fit above_max below_min
     found-quiet =
         λ i. record {
-          fits = every-quiet (levels_fit u.kind u.range) (λ l e. rw e) i;
-          above = some-quiet (above_max u.kind u.range) (λ l e. rw e (and-false (is_none l.positive))) i;
-          below = some-quiet (below_min u.kind u.range) (λ l e. rw e (and-false (is_none l.negative))) i;
+          fits = every-quiet (levels_fit u.kind.0 u.range) (λ l e. rw e) i;
+          above = some-quiet (above_max u.kind.0 u.range) (λ l e. rw e (and-false (is_none l.positive))) i;
+          below = some-quiet (below_min u.kind.0 u.range) (λ l e. rw e (and-false (is_none l.negative))) i;
         }
 
   -- where no minute is left

@@ -24,7 +24,7 @@ use Rattle.levels.specs.Counted.{report_record, slot_record, counted_records, sw
 use Rattle.levels.specs.Extremes.{type_at, some_of_type, counted_types, types_meet}
 
 -- a record of another type has no level of this one
-other-type : (type : ℕ) (w : FullRecord) (ws : List FullRecord) (direction m : ℕ) → eqb w.fields.record_type type ≡ false
+other-type : (type : ℕ) (w : FullRecord) (ws : List FullRecord) (direction m : ℕ) → eqb w.fields.record_type.0 type ≡ false
     → level_among (w ∷ ws) type direction m ≡ level_among ws type direction m
 unfolding level_among level_of pick
 other-type type w ws direction m e = rw e
@@ -35,10 +35,10 @@ module _ (b : List ℕ) (counted : List Bool) (type direction m : ℕ) where
   unfolding level_among records_among all series pick
   none-among i zero e = refl
   none-among i (suc n) e =
-      by-case (get_or counted i false) (eqb (record_at b i).record_type type) refl refl
+      by-case (get_or counted i false) (eqb (record_at b i).record_type.0 type) refl refl
       (and_left (not (type_at b counted type i)) _ e) (none-among (i + 1) n (and_right (not (type_at b counted type i)) _ e))
     where
-      by-case : (c f : Bool) → get_or counted i false ≡ c → eqb (record_at b i).record_type type ≡ f → not (c && f) ≡ true
+      by-case : (c f : Bool) → get_or counted i false ≡ c → eqb (record_at b i).record_type.0 type ≡ f → not (c && f) ≡ true
           → level_among (records_among b (λ i. get_or counted i false) (i + 1) n) type direction m ≡ None
           → level_among (records_among b (λ i. get_or counted i false) i (suc n)) type direction m ≡ None
       by-case false f p q t rest = rw p rest
@@ -66,18 +66,18 @@ neither false c e = (refl, e)
 -- the report's record and the slots'
 module _ (b s : List ℕ) (counted : List Bool) (with-report : Bool) where
   abbrev swept_of : ℕ → Bool
-  swept_of type = some_of_type b counted type || with-report && eqb (record_of s).record_type type
+  swept_of type = some_of_type b counted type || with-report && eqb (record_of s).record_type.0 type
 
   none-swept : (type direction m : ℕ) → swept_of type ≡ false
       → level_among (swept_records b s counted with-report) type direction m ≡ None
   unfolding swept_records some_of_type pick
   none-swept type direction m e =
-      by-case with-report (eqb (record_of s).record_type type) refl refl (neither (some_of_type b counted type) _ e).1
+      by-case with-report (eqb (record_of s).record_type.0 type) refl refl (neither (some_of_type b counted type) _ e).1
     where
       slots : level_among (counted_records b counted) type direction m ≡ None
       slots = none-among b counted type direction m 0 slot_count (not-false _ (neither (some_of_type b counted type) _ e).0)
 
-      by-case : (w f : Bool) → with-report ≡ w → eqb (record_of s).record_type type ≡ f → (w && f) ≡ false
+      by-case : (w f : Bool) → with-report ≡ w → eqb (record_of s).record_type.0 type ≡ f → (w && f) ≡ false
           → level_among (swept_records b s counted with-report) type direction m ≡ None
       by-case false f p q t = rw p slots
       by-case true false p q t = rw p (other-type type (report_record s) (counted_records b counted) direction m q ∙ slots)
@@ -103,7 +103,7 @@ module _ (b s : List ℕ) (counted : List Bool) (with-report : Bool) where
         rw (none-swept positive_derating direction m e, none-swept negative_derating direction m f) (alone_fits kind range _)
 
     pub fits-apart : {h : Head} {types : CountedTypes} {t : Bool} → h ≡ head_of s → types ≡ counted_types b counted
-        → t ≡ types_meet types with-report h.record_type → t ≡ false
+        → t ≡ types_meet types with-report h.record_type.0 → t ≡ false
         → true ≡ levels_every (levels_fit kind range) (swept_records b s counted with-report) direction start end
     fits-apart {h} {types} {t} head asked meet e = by-case (swept_of forced_work) refl where
       apart : (swept_of forced_work && (swept_of positive_derating || swept_of negative_derating)) ≡ false
@@ -123,7 +123,7 @@ module _ (b : List ℕ) (counted : List Bool) (type : ℕ) where
   OfType none i = Tested (λ i. not (type_at b counted type i)) (λ i. i) slot_count none i
 
   pub type-tested : {i : ℕ} {none : Bool} {z : List ℕ} {r : Record} → OfType none i → i < slot_count → z ≡ slot_at b i
-      → r ≡ record_in z → OfType (none && not (get_or counted i false && eqb r.record_type type)) (i + 1)
+      → r ≡ record_in z → OfType (none && not (get_or counted i false && eqb r.record_type.0 type)) (i + 1)
   type-tested t l e q = tested-more t l (rw (q, e))
 
   pub type-found : {i : ℕ} {none : Bool} → OfType none i → slot_count ≤ i → not none ≡ some_of_type b counted type

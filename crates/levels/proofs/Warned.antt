@@ -45,10 +45,10 @@ module _ (ls : Lanes) (ws : List FullRecord) (direction : ℕ) (period : Period)
         (λ m a o. ⊎_elim (λ w. inl (ap not (none (levels_at ws direction m) w))) (λ i. inr i) (quiet m a o)))
 
     pub warn-narrowed : {g : SweepResult} → g ≡ found_in (lane_levels ls) u (common period h).start.0 (common period h).end.0
-        → record { above = g.above; below = g.below } ≡ level_warnings u.kind u.range ws direction period.start.0 period.end.0
+        → record { above = g.above; below = g.below } ≡ level_warnings u.kind.0 u.range ws direction period.start.0 period.end.0
     unfolding level_warnings levels_some found_in
     warn-narrowed {g} e =
         let found = e ∙ found-same u _ _ same in
-        let above = ap (λ (g : SweepResult). g.above) found ∙ same_some (above_max u.kind u.range) (not-above u) in
-        let below = ap (λ (g : SweepResult). g.below) found ∙ same_some (below_min u.kind u.range) (not-below u) in
+        let above = ap (λ (g : SweepResult). g.above) found ∙ same_some (above_max u.kind.0 u.range) (not-above u) in
+        let below = ap (λ (g : SweepResult). g.below) found ∙ same_some (below_min u.kind.0 u.range) (not-below u) in
         λ i. record { above = above i; below = below i }

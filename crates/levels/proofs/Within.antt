@@ -54,10 +54,10 @@ module _ (u : Limits) where
         → Within (level_of (slot_record b i) forced_work direction m)
     unfolding slot_within pairs_within level_of
     slot-quiet i e =
-        pick-elim Within (eqb r.record_type 4 && eqb r.direction direction && leb r.period.start.0 m && ltb m
+        pick-elim Within (eqb r.record_type.0 4 && eqb r.direction.0 direction && leb r.period.start.0 m && ltb m
         r.period.end.0)
-        (λ t. slot-level z 0 (stored_count z) m r.period.start (pairs (first_two (eqb r.record_type 4) (eqb
-        r.direction direction) _ _ t)))
+        (λ t. slot-level z 0 (stored_count z) m r.period.start (pairs (first_two (eqb r.record_type.0 4) (eqb
+        r.direction.0 direction) _ _ t)))
         (λ t. refl)
       where
         r : Record
@@ -102,24 +102,24 @@ module _ (u : Limits) where
   within-not test f (Some k) h = f k.0 h
 
   module _ (l : Levels) (h : Within l.forced) where
-    pub not-above : above_max u.kind u.range l ≡ false
+    pub not-above : above_max u.kind.0 u.range l ≡ false
     unfolding above_max
     not-above =
-        rw (within-not (is_high u.kind u.range)
-        (λ k t. not-true (is_high u.kind u.range k) (and_left _ (not (is_low u.kind u.range k)) t)) l.forced h)
+        rw (within-not (is_high u.kind.0 u.range)
+        (λ k t. not-true (is_high u.kind.0 u.range k) (and_left _ (not (is_low u.kind.0 u.range k)) t)) l.forced h)
         (and-false (is_none l.positive))
 
-    pub not-below : below_min u.kind u.range l ≡ false
+    pub not-below : below_min u.kind.0 u.range l ≡ false
     unfolding below_min
     not-below =
-        rw (within-not (is_low u.kind u.range)
-        (λ k t. not-true (is_low u.kind u.range k) (and_right (not (is_high u.kind u.range k)) _ t)) l.forced h)
+        rw (within-not (is_low u.kind.0 u.range)
+        (λ k t. not-true (is_low u.kind.0 u.range k) (and_right (not (is_high u.kind.0 u.range k)) _ t)) l.forced h)
         (and-false (is_none l.negative))
 
   module _ (b : List ℕ) (counted : List Bool) (direction start end : ℕ) where
     -- nothing is beyond the limits
     pub warn-none : {t : Bool} → t ≡ forced_within b counted direction u → t ≡ true
-        → record { above = false; below = false } ≡ level_warnings u.kind u.range (counted_records b counted) direction start end
+        → record { above = false; below = false } ≡ level_warnings u.kind.0 u.range (counted_records b counted) direction start end
     unfolding forced_within level_warnings levels_some levels_at
     warn-none p t =
         λ i. record {

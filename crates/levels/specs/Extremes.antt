@@ -20,7 +20,7 @@ use Rattle.levels.specs.Lanes.{lane_in, lane_pair, level_if_lane, type_level}
 
 -- slot i counts and is of a type; some slot is
 abbrev pub type_at : List ℕ → List Bool → ℕ → ℕ → Bool
-type_at b counted type i = get_or counted i false && eqb (record_at b i).record_type type
+type_at b counted type i = get_or counted i false && eqb (record_at b i).record_type.0 type
 
 unfoldable pub some_of_type : List ℕ → List Bool → ℕ → Bool
 some_of_type b counted type = not (all (λ i. not (type_at b counted type i)) (series (λ i. i) 0 slot_count))
@@ -71,7 +71,7 @@ highest_of e = option_map (λ e. e.highest) e
 
 -- the highest and the lowest forced level fit beside the highest deratings
 abbrev pub extremes_fit : Limits → Extremes → Option Kilowatt → Option Kilowatt → Bool
-extremes_fit u f p n = fits_beside u.kind u.range f.highest.0 p n && fits_beside u.kind u.range f.lowest.0 p n
+extremes_fit u f p n = fits_beside u.kind.0 u.range f.highest.0 p n && fits_beside u.kind.0 u.range f.lowest.0 p n
 
 -- the minutes of two periods
 abbrev pub common : Period → Period → Period

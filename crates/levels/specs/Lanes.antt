@@ -31,11 +31,11 @@ unfoldable pub lane_of : Bool → Record → ℕ → Option Lane
 lane_of counts r k = pick counts (Some (record { record_type = r.record_type; period = r.period; count = k })) None
 
 unfoldable pub report_lane : List ℕ → Bool → ℕ → Option Lane
-report_lane s with-report direction = lane_of (with-report && eqb (record_of s).direction direction) (record_of s) (part_count_of s)
+report_lane s with-report direction = lane_of (with-report && eqb (record_of s).direction.0 direction) (record_of s) (part_count_of s)
 
 unfoldable pub slot_lane : List ℕ → ℕ → Bool → ℕ → Option Lane
 slot_lane b i counted direction =
-    lane_of (counted && eqb (record_at b i).direction direction) (record_at b i) (stored_count (slot_at b i))
+    lane_of (counted && eqb (record_at b i).direction.0 direction) (record_at b i) (stored_count (slot_at b i))
 
 unfoldable pub lane_at : List ℕ → List ℕ → Swept → ℕ → ℕ → Option Lane
 lane_at b s swept direction zero = report_lane s swept.with_report direction
@@ -56,7 +56,7 @@ lane_in ls i = get_or ls.each i None
 -- a lane's level in minute m, where it is of this type and holds the minute
 unfoldable pub lane_level : Lane → (ℕ → Pair) → ℕ → ℕ → Option Kilowatt
 lane_level lane f type m =
-    pick (eqb lane.record_type type && leb lane.period.start.0 m && ltb m lane.period.end.0)
+    pick (eqb lane.record_type.0 type && leb lane.period.start.0 m && ltb m lane.period.end.0)
     (level_among_pairs (series f 0 lane.count) m)
     None
 
@@ -96,7 +96,7 @@ pub record Held (f : ℕ → Pair) (lane : Lane) (m until : ℕ) : Type 0 where
   pub later : m < until
   pub there : (k : ℕ) → m ≤ k → k < until → is_some (level_among_pairs (series f 0 lane.count) k) ≡ true
   pub same : (k : ℕ) → m ≤ k → k < until
-      → lane_level lane f lane.record_type k ≡ level_among_pairs (series f 0 lane.count) k
+      → lane_level lane f lane.record_type.0 k ≡ level_among_pairs (series f 0 lane.count) k
 
 -- the level among the pairs of a place
 abbrev pub level_of : Place → ℕ → Option Kilowatt

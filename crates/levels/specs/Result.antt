@@ -8,17 +8,17 @@ use Rattle.levels.specs.declared.SweepResult.{SweepResult}
 
 abbrev pub with_span : SweepResult → Limits → Levels → SweepResult
 with_span g u l = record {
-  fits = g.fits && levels_fit u.kind u.range l;
-  above = g.above || above_max u.kind u.range l;
-  below = g.below || below_min u.kind u.range l;
+  fits = g.fits && levels_fit u.kind.0 u.range l;
+  above = g.above || above_max u.kind.0 u.range l;
+  below = g.below || below_min u.kind.0 u.range l;
 }
 
 -- of the levels that f gives for each minute
 unfoldable pub found_in : (ℕ → Levels) → Limits → ℕ → ℕ → SweepResult
 found_in f u start end = record {
-  fits = every_minute start end (λ m. levels_fit u.kind u.range (f m));
-  above = some_minute start end (λ m. above_max u.kind u.range (f m));
-  below = some_minute start end (λ m. below_min u.kind u.range (f m));
+  fits = every_minute start end (λ m. levels_fit u.kind.0 u.range (f m));
+  above = some_minute start end (λ m. above_max u.kind.0 u.range (f m));
+  below = some_minute start end (λ m. below_min u.kind.0 u.range (f m));
 }
 
 -- what two stretches of minutes hold together

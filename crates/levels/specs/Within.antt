@@ -14,7 +14,7 @@ use Rattle.levels.specs.declared.LevelWarnings.{LevelWarnings}
 
 -- what warnings 2 and 4 ask of the level itself
 abbrev pub power_within : Limits → ℕ → Bool
-power_within u level = not (is_high u.kind u.range level) && not (is_low u.kind u.range level)
+power_within u level = not (is_high u.kind.0 u.range level) && not (is_low u.kind.0 u.range level)
 
 -- of every pair of a slot
 unfoldable pub pairs_within : List ℕ → Limits → Bool

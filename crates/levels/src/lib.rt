@@ -15,8 +15,8 @@ ghost use Rattle.levels.specs.Within.{power_within, pairs_within, slot_within, f
 
 use block::{Pair, SLOT_COUNT};
 use quantities::{Kilowatt, Minute, Period};
-use records::{FORCED_WORK, M1, NEGATIVE_DERATING, POSITIVE_DERATING, W1, Z1};
-use rules::{Levels, PowerRange, Record};
+use report::{Direction, RecordType};
+use rules::{Kind, Levels, PowerRange, Record};
 
 // The lanes of a sweep: the report's and one for each slot.
 pub const LANE_COUNT: u8 = SLOT_COUNT + 1;
@@ -41,7 +41,7 @@ pub struct Swept {
 // A record that counts, as a sweep reads it: its type, its period and how many pairs it has.
 #[derive(Clone, Copy)]
 pub struct Lane {
-    pub record_type: u8,
+    pub record_type: RecordType,
     pub period: Period,
     pub count: u16,
 }
@@ -100,7 +100,7 @@ pub struct Extremes {
 // What levels are held against: a unit's kind and its powers in one direction.
 #[derive(Clone, Copy)]
 pub struct Limits {
-    pub kind: u8,
+    pub kind: Kind,
     pub range: PowerRange,
 }
 
@@ -177,7 +177,7 @@ impl<'a> Source<'a> {
     fn level_in(self, lane: Lane, place: u16, m: Minute) -> LaneSpan
         requires m_bound { m.0 < 4294967295 }
         requires passed { Passed (pairs_of self) lane.count place m.0 }
-        ensures { Stepped (pairs_of self.entry) lane.count m.0 (lane_level lane (pairs_of self.entry) lane.record_type) result }
+        ensures { Stepped (pairs_of self.entry) lane.count m.0 (lane_level lane (pairs_of self.entry) lane.record_type.0) result }
     {
         let start = lane.period.start;
         let end = lane.period.end;
@@ -208,7 +208,7 @@ impl<'a> Source<'a> {
     // Up to it a lane whose level was found has one: the last pair's end or, where that has passed, the level's.
     fn held_until(self, lane: Lane, step: LaneSpan, m: Minute) -> Minute
         requires has_level { is_some step.span.level ≡ true }
-        requires stepped { Stepped (pairs_of self) lane.count m.0 (lane_level lane (pairs_of self) lane.record_type) step }
+        requires stepped { Stepped (pairs_of self) lane.count m.0 (lane_level lane (pairs_of self) lane.record_type.0) step }
         ensures { Held (pairs_of self.entry) lane m.0 result.0 }
     {
         let last = self.pair(lane.count - 1).end;
@@ -302,8 +302,8 @@ fn lane_of(counts: bool, r: Record, count: u16) -> Option<Lane>
     })
 }
 
-fn report_lane(report: &[u8], with_report: bool, direction: u8) -> Option<Lane>
-    ensures { result ≡ report_lane report.now with_report direction }
+fn report_lane(report: &[u8], with_report: bool, direction: Direction) -> Option<Lane>
+    ensures { result ≡ report_lane report.now with_report direction.0 }
 {
     if !with_report {
         return None;
@@ -313,8 +313,8 @@ fn report_lane(report: &[u8], with_report: bool, direction: u8) -> Option<Lane>
     lane_of(r.direction == direction, r, h.part_count)
 }
 
-fn slot_lane(b: &[u8], i: u8, counted: bool, direction: u8) -> Option<Lane>
-    ensures { result ≡ slot_lane b.now i counted direction }
+fn slot_lane(b: &[u8], i: u8, counted: bool, direction: Direction) -> Option<Lane>
+    ensures { result ≡ slot_lane b.now i counted direction.0 }
 {
     if !counted {
         return None;
@@ -324,9 +324,9 @@ fn slot_lane(b: &[u8], i: u8, counted: bool, direction: u8) -> Option<Lane>
     lane_of(r.direction == direction, r, block::stored_count(z))
 }
 
-fn lane_at(b: &[u8], report: &[u8], swept: Swept, direction: u8, i: u8) -> Option<Lane>
+fn lane_at(b: &[u8], report: &[u8], swept: Swept, direction: Direction, i: u8) -> Option<Lane>
     requires { i < lane_count }
-    ensures { result ≡ lane_at b.now report.now swept direction i }
+    ensures { result ≡ lane_at b.now report.now swept direction.0 i }
 {
     if i == 0 {
         return report_lane(report, swept.with_report, direction);
@@ -336,8 +336,8 @@ fn lane_at(b: &[u8], report: &[u8], swept: Swept, direction: u8, i: u8) -> Optio
 }
 
 // The lanes of one direction have the levels of the records that count.
-fn lanes_of<'a>(b: &'a [u8], report: &'a [u8], swept: Swept, direction: u8) -> Lanes<'a>
-    ensures { (m : ℕ) → lane_levels result m ≡ levels_at (swept_records b.now report.now swept.counted swept.with_report) direction m }
+fn lanes_of<'a>(b: &'a [u8], report: &'a [u8], swept: Swept, direction: Direction) -> Lanes<'a>
+    ensures { (m : ℕ) → lane_levels result m ≡ levels_at (swept_records b.now report.now swept.counted swept.with_report) direction.0 m }
 {
     let mut each = [None; 9];
     for i in 0..LANE_COUNT {
@@ -363,10 +363,10 @@ impl<'a> Lanes<'a> {
     }
 
     // The first lane of a type that has a level; so it is up to its last change or to the start of a lane before it.
-    fn choose_lane(&self, places: &mut [u16; 9], record_type: u8, m: Minute) -> Choice<'a>
+    fn choose_lane(&self, places: &mut [u16; 9], record_type: RecordType, m: Minute) -> Choice<'a>
         requires m_bound { m.0 < 4294967295 }
         requires placed { Placed self.now places.old m.0 }
-        ensures chosen { Chosen self.now record_type m.0 result }
+        ensures chosen { Chosen self.now record_type.0 m.0 result }
         ensures placed_after { Placed self.now places.new m.0 }
     {
         let mut until = LAST;
@@ -409,10 +409,10 @@ impl<'a> Lanes<'a> {
         let mut g = nothing_found();
         // Compared as numbers: the minutes left are the loop's measure.
         while m.0 < end.0 {
-            let forced = self.choose_lane(&mut places, FORCED_WORK, m);
+            let forced = self.choose_lane(&mut places, RecordType::FORCED_WORK, m);
             if forced.at.is_some() {
-                let positive = self.choose_lane(&mut places, POSITIVE_DERATING, m);
-                let negative = self.choose_lane(&mut places, NEGATIVE_DERATING, m);
+                let positive = self.choose_lane(&mut places, RecordType::POSITIVE_DERATING, m);
+                let negative = self.choose_lane(&mut places, RecordType::NEGATIVE_DERATING, m);
                 let chosen = Choices {
                     forced,
                     positive,
@@ -431,9 +431,9 @@ impl<'a> Lanes<'a> {
     }
 
     // Lane i, where it is of the type and shares a minute with the period.
-    fn lane_within(&self, i: u8, record_type: u8, period: Period) -> Option<Lane>
+    fn lane_within(&self, i: u8, record_type: RecordType, period: Period) -> Option<Lane>
         requires { i < lane_count }
-        ensures { LaneWithin self.now i record_type period result }
+        ensures { LaneWithin self.now i record_type.0 period result }
     {
         let lane = self.each[i as usize]?;
         let is_within = (lane.record_type == record_type)
@@ -442,8 +442,8 @@ impl<'a> Lanes<'a> {
     }
 
     // The extremes of the lanes of a type that share a minute with the period.
-    fn extremes_of(&self, record_type: u8, period: Period) -> Option<Extremes>
-        ensures { CoversType self.now record_type period result }
+    fn extremes_of(&self, record_type: RecordType, period: Period) -> Option<Extremes>
+        ensures { CoversType self.now record_type.0 period result }
     {
         // Of no power: the lowest is above the highest. A flag or an Option here would be asked in every turn.
         let mut e = Extremes {
@@ -469,7 +469,7 @@ impl<'a> Lanes<'a> {
             end: Minute(0),
         };
         for i in 0..LANE_COUNT {
-            let Some(lane) = self.lane_within(i, FORCED_WORK, period) else {
+            let Some(lane) = self.lane_within(i, RecordType::FORCED_WORK, period) else {
                 continue;
             };
             asked = self.pairs(i).asked_in(lane, passes, asked);
@@ -531,16 +531,16 @@ impl Limits {
         positive: Option<Kilowatt>,
         negative: Option<Kilowatt>,
     ) -> bool
-        ensures { result ≡ fits_beside self.kind self.range level.0 positive negative }
+        ensures { result ≡ fits_beside self.kind.0 self.range level.0 positive negative }
     {
-        let others = !((self.kind == W1) | (self.kind == M1))
+        let others = !((self.kind == Kind::W1) | (self.kind == Kind::M1))
             | fits_w1_m1(self.range, level, positive, negative);
         let z1 = fits_z1(self.range, level, positive, negative);
-        records::choose(self.kind == Z1, z1, others)
+        records::choose(self.kind == Kind::Z1, z1, others)
     }
 
     fn levels_fit(self, l: Levels) -> bool
-        ensures { result ≡ levels_fit self.kind self.range l }
+        ensures { result ≡ levels_fit self.kind.0 self.range l }
     {
         match l.forced {
             Some(level) => self.fits_beside(level, l.positive, l.negative),
@@ -549,31 +549,31 @@ impl Limits {
     }
 
     fn is_high(self, level: Kilowatt) -> bool
-        ensures { result ≡ is_high self.kind self.range level.0 }
+        ensures { result ≡ is_high self.kind.0 self.range level.0 }
     {
         let level = quantities::wide(level);
         let max = quantities::wide(self.range.max);
         records::choose(
-            self.kind == Z1,
+            self.kind == Kind::Z1,
             max < level + quantities::wide(self.range.min),
             max < level,
         )
     }
 
     fn is_low(self, level: Kilowatt) -> bool
-        ensures { result ≡ is_low self.kind self.range level.0 }
+        ensures { result ≡ is_low self.kind.0 self.range level.0 }
     {
-        ((self.kind == W1) | (self.kind == M1)) & (level < self.range.min)
+        ((self.kind == Kind::W1) | (self.kind == Kind::M1)) & (level < self.range.min)
     }
 
     fn above_max(self, l: Levels) -> bool
-        ensures { result ≡ above_max self.kind self.range l }
+        ensures { result ≡ above_max self.kind.0 self.range l }
     {
         l.positive.is_none() & l.forced.is_some_and(|level| self.is_high(level))
     }
 
     fn below_min(self, l: Levels) -> bool
-        ensures { result ≡ below_min self.kind self.range l }
+        ensures { result ≡ below_min self.kind.0 self.range l }
     {
         l.negative.is_none() & l.forced.is_some_and(|level| self.is_low(level))
     }
@@ -659,22 +659,22 @@ impl Limits {
         ok
     }
 
-    fn slot_within(self, b: &[u8], i: u8, counted: bool, direction: u8) -> bool
-        ensures { result ≡ slot_within b.now i counted direction self }
+    fn slot_within(self, b: &[u8], i: u8, counted: bool, direction: Direction) -> bool
+        ensures { result ≡ slot_within b.now i counted direction.0 self }
     {
         if !counted {
             return true;
         }
         let z = block::slot_at(b, i);
         let r = block::record_in(z);
-        if (r.record_type == FORCED_WORK) & (r.direction == direction) {
+        if (r.record_type == RecordType::FORCED_WORK) & (r.direction == direction) {
             return self.pairs_within(z);
         }
         true
     }
 
-    fn forced_within(self, b: &[u8], counted: [bool; 8], direction: u8) -> bool
-        ensures { result ≡ forced_within b.now counted direction self }
+    fn forced_within(self, b: &[u8], counted: [bool; 8], direction: Direction) -> bool
+        ensures { result ≡ forced_within b.now counted direction.0 self }
     {
         let mut ok = true;
         for i in 0..SLOT_COUNT {
@@ -728,9 +728,9 @@ fn counted_types(b: &[u8], counted: [bool; 8]) -> CountedTypes
     for i in 0..SLOT_COUNT {
         let r = block::record_in(block::slot_at(b, i));
         let counts = counted[i as usize];
-        unforced = unforced & !(counts & (r.record_type == FORCED_WORK));
-        no_positive = no_positive & !(counts & (r.record_type == POSITIVE_DERATING));
-        no_negative = no_negative & !(counts & (r.record_type == NEGATIVE_DERATING));
+        unforced = unforced & !(counts & (r.record_type == RecordType::FORCED_WORK));
+        no_positive = no_positive & !(counts & (r.record_type == RecordType::POSITIVE_DERATING));
+        no_negative = no_negative & !(counts & (r.record_type == RecordType::NEGATIVE_DERATING));
     }
     CountedTypes {
         forced: !unforced,
@@ -740,12 +740,12 @@ fn counted_types(b: &[u8], counted: [bool; 8]) -> CountedTypes
 }
 
 // Forced work and a derating count, the report's record among them.
-fn types_meet(counted: CountedTypes, with_report: bool, record_type: u8) -> bool
-    ensures { result ≡ types_meet counted with_report record_type }
+fn types_meet(counted: CountedTypes, with_report: bool, record_type: RecordType) -> bool
+    ensures { result ≡ types_meet counted with_report record_type.0 }
 {
-    let forced = counted.forced | (with_report & (record_type == FORCED_WORK));
-    let positive = counted.positive | (with_report & (record_type == POSITIVE_DERATING));
-    let negative = counted.negative | (with_report & (record_type == NEGATIVE_DERATING));
+    let forced = counted.forced | (with_report & (record_type == RecordType::FORCED_WORK));
+    let positive = counted.positive | (with_report & (record_type == RecordType::POSITIVE_DERATING));
+    let negative = counted.negative | (with_report & (record_type == RecordType::NEGATIVE_DERATING));
     forced & (positive | negative)
 }
 
@@ -755,11 +755,11 @@ pub fn fits(
     b: &[u8],
     report: &[u8],
     swept: Swept,
-    direction: u8,
+    direction: Direction,
     period: Period,
     limits: Limits,
 ) -> bool
-    ensures { result ≡ levels_every (levels_fit limits.kind limits.range) (swept_records b.now report.now swept.counted swept.with_report) direction period.start.0 period.end.0 }
+    ensures { result ≡ levels_every (levels_fit limits.kind.0 limits.range) (swept_records b.now report.now swept.counted swept.with_report) direction.0 period.start.0 period.end.0 }
 {
     let counted = swept.counted;
     let types = counted_types(b, counted);
@@ -771,18 +771,18 @@ pub fn fits(
         return true;
     }
     let lanes = lanes_of(b, report, swept, direction);
-    let Some(forced) = lanes.extremes_of(FORCED_WORK, period) else {
+    let Some(forced) = lanes.extremes_of(RecordType::FORCED_WORK, period) else {
         return true;
     };
-    let positive = highest_of(lanes.extremes_of(POSITIVE_DERATING, period));
-    let negative = highest_of(lanes.extremes_of(NEGATIVE_DERATING, period));
+    let positive = highest_of(lanes.extremes_of(RecordType::POSITIVE_DERATING, period));
+    let negative = highest_of(lanes.extremes_of(RecordType::NEGATIVE_DERATING, period));
     if limits.extremes_fit(forced, positive, negative) {
         return true;
     }
     let asked = lanes.asked_of(
         period,
         |p: Kilowatt| -> bool
-            ensures { result ≡ fits_beside limits.kind limits.range p.0 positive negative }
+            ensures { result ≡ fits_beside limits.kind.0 limits.range p.0 positive negative }
         { limits.fits_beside(p, positive, negative) },
     );
     lanes.sweep_lanes(common(period, asked), limits).fits
@@ -798,11 +798,11 @@ fn highest_of(e: Option<Extremes>) -> Option<Kilowatt>
 pub fn warn(
     b: &[u8],
     counted: [bool; 8],
-    direction: u8,
+    direction: Direction,
     period: Period,
     limits: Limits,
 ) -> LevelWarnings
-    ensures { result ≡ level_warnings limits.kind limits.range (counted_records b.now counted) direction period.start.0 period.end.0 }
+    ensures { result ≡ level_warnings limits.kind.0 limits.range (counted_records b.now counted) direction.0 period.start.0 period.end.0 }
 {
     if limits.forced_within(b, counted, direction) {
         return LevelWarnings {

@@ -10,7 +10,7 @@ use Rattle.report.specs.Report.{report_mark, part_mark, text_mark}
 unfoldable pub encode_head : Head → List ℕ
 encode_head h =
     bytes_of 2 report_mark ++ bytes_of 2 h.unit ++ bytes_of 2 h.owner
-    ++ (h.record_type ∷ h.operation ∷ h.direction ∷ h.start_mark ∷ h.end_mark ∷ h.qualification ∷ [])
+    ++ (h.record_type.0 ∷ h.operation.0 ∷ h.direction.0 ∷ h.start_mark.0 ∷ h.end_mark.0 ∷ h.qualification ∷ [])
     ++ bytes_of 2 h.ordinal ++ bytes_of 2 h.part_count ++ h.identifier ++ bytes_of 4 h.stamp.0
     ++ bytes_of 4 h.period.start.0 ++ bytes_of 4 h.period.end.0 ++ bytes_of 2 h.text_length ++ bytes_of 2 0
 

@@ -2,7 +2,7 @@
 ghost use Rattle.std.specs.Prelude.{◌≡◌, ◌+◌, ◌*◌};
 
 use crate::lines::print_line;
-use records::{STOP, WITHDRAW};
+use report::{Operation, RecordType};
 use report::{PART_SIZE, PARTS_START};
 use sent_reports::{D, derating_over, fresh_register};
 use std::{fmt, io};
@@ -148,11 +148,11 @@ fn other_periods(rt: &impl Print) -> io::Result<()> {
 fn no_list(rt: &impl Print) -> io::Result<()> {
     let mut buffer = [0u8; 1850];
     let report = compose(&mut buffer, 90);
-    fields::put_u8(report, 7, WITHDRAW);
+    fields::put_u8(report, 7, Operation::WITHDRAW.0);
     print!(rt; "a withdrawal with ninety parts: ")?;
     print_line(rt, &mut fresh_register(), report)?;
     let report = compose(&mut buffer, 90);
-    fields::put_u8(report, 6, STOP);
+    fields::put_u8(report, 6, RecordType::STOP.0);
     fields::put_u8(report, 11, 1);
     print!(rt; "a stop with ninety parts: ")?;
     print_line(rt, &mut fresh_register(), report)

@@ -1,6 +1,6 @@
 // A2: a derating on unit 1 of roster A, 20,000 kW from 12:00, planned to 16:00, that ended at 14:07.
 use crate::lines::print_line;
-use records::{CHANGE, CREATE, EXECUTED, NEGATIVE_DERATING, PLANNED, STOP, WITHDRAW};
+use report::{Mark, Operation, RecordType};
 use sent_reports::{D, MOST_BYTES, REGISTER_SIZE, Sent, derating_over, event, fresh_register};
 use std::io;
 
@@ -17,8 +17,8 @@ const PLANNED_END: u32 = D + 960;
 #[derive(Clone, Copy)]
 struct Change {
     sent: Sent,
-    operation: u8,
-    end_mark: u8,
+    operation: Operation,
+    end_mark: Mark,
     ordinal: u8,
     part_end: u32,
 }
@@ -37,21 +37,21 @@ pub(crate) fn cases(rt: &impl Print) -> io::Result<()> {
 fn planned(stamp: u32, start: u32) -> Change {
     Change {
         sent: derating_over(1, stamp, start, PLANNED_END),
-        operation: CREATE,
-        end_mark: PLANNED,
+        operation: Operation::CREATE,
+        end_mark: Mark::PLANNED,
         ordinal: 1,
         part_end: PLANNED_END,
     }
 }
 
 // A change, executed from 12:00 on.
-fn changed(stamp: u32, end: u32, end_mark: u8, ordinal: u8) -> Change {
+fn changed(stamp: u32, end: u32, end_mark: Mark, ordinal: u8) -> Change {
     Change {
         sent: Sent {
-            start_mark: EXECUTED,
+            start_mark: Mark::EXECUTED,
             ..derating_over(1, stamp, NOON, end)
         },
-        operation: CHANGE,
+        operation: Operation::CHANGE,
         end_mark,
         ordinal,
         part_end: end,
@@ -59,18 +59,18 @@ fn changed(stamp: u32, end: u32, end_mark: u8, ordinal: u8) -> Change {
 }
 
 fn begun() -> Change {
-    changed(NOON + 3, PLANNED_END, PLANNED, 2)
+    changed(NOON + 3, PLANNED_END, Mark::PLANNED, 2)
 }
 
 fn ended(stamp: u32, end: u32) -> Change {
-    changed(stamp, end, EXECUTED, 3)
+    changed(stamp, end, Mark::EXECUTED, 3)
 }
 
 // Puts the report's bytes at the start of the buffer, and lends them.
 fn compose(buffer: &mut [u8], c: Change) -> &mut [u8] {
     let report = sent_reports::compose(buffer, c.sent);
-    fields::put_u8(report, 7, c.operation);
-    fields::put_u8(report, 10, c.end_mark);
+    fields::put_u8(report, 7, c.operation.0);
+    fields::put_u8(report, 10, c.end_mark.0);
     fields::put_u8(report, 12, c.ordinal);
     fields::put_u32(report, 56, c.part_end);
     report
@@ -146,15 +146,15 @@ fn other_times(rt: &impl Print) -> io::Result<()> {
 fn other_codes(rt: &impl Print) -> io::Result<()> {
     let c = ended(SAID, ENDED);
     let started_as_planned = Sent {
-        start_mark: PLANNED,
+        start_mark: Mark::PLANNED,
         ..c.sent
     };
     let all = [
-        ("end mark 3", Change { end_mark: 3, ..c }),
+        ("end mark 3", Change { end_mark: Mark(3), ..c }),
         (
             "end mark 1, planned",
             Change {
-                end_mark: PLANNED,
+                end_mark: Mark::PLANNED,
                 ..c
             },
         ),
@@ -168,14 +168,14 @@ fn other_codes(rt: &impl Print) -> io::Result<()> {
         (
             "as a withdrawal",
             Change {
-                operation: WITHDRAW,
+                operation: Operation::WITHDRAW,
                 ..c
             },
         ),
         (
             "as a creation",
             Change {
-                operation: CREATE,
+                operation: Operation::CREATE,
                 ..c
             },
         ),
@@ -202,14 +202,14 @@ fn other_types(rt: &impl Print) -> io::Result<()> {
         (
             "of another type than its record",
             Change {
-                sent: of_type(NEGATIVE_DERATING, 0),
+                sent: of_type(RecordType::NEGATIVE_DERATING, 0),
                 ..c
             },
         ),
         (
             "of a stop",
             Change {
-                sent: of_type(STOP, 1),
+                sent: of_type(RecordType::STOP, 1),
                 ..c
             },
         ),
@@ -217,7 +217,7 @@ fn other_types(rt: &impl Print) -> io::Result<()> {
             "of an event",
             Change {
                 sent: event,
-                operation: CREATE,
+                operation: Operation::CREATE,
                 ..c
             },
         ),

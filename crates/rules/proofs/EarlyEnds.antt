@@ -37,7 +37,7 @@ module _ (s : List ℕ) (early : ends_early (head_of s) ≡ true) (q4 : question
   neither : (is_event s || is_withdrawal s) ≡ false
   unfolding question4
   neither =
-      let other-mark : eqb (head_of s).end_mark planned ≡ false = rw (eqb-true (head_of s).end_mark executed early) refl in
+      let other-mark : eqb (head_of s).end_mark.0 planned ≡ false = rw (eqb-true (head_of s).end_mark.0 executed early) refl in
       not-true (is_event s || is_withdrawal s) (rw (other-mark, early) at (every_true _ q4).1.1.0)
 
   pub no-event : is_event s ≡ false
@@ -50,16 +50,16 @@ module _ (s : List ℕ) (early : ends_early (head_of s) ≡ true) (q4 : question
   no-withdrawal = rw no-event at neither
 
 -- a report of types 2 to 4 changes no state, and no record leaves
-module _ (b s : List ℕ) (levelled : is_levelled (head_of s).record_type ≡ true) (no-event : is_event s ≡ false) where
-  no_stop : eqb (head_of s).record_type stop ≡ false
+module _ (b s : List ℕ) (levelled : is_levelled (head_of s).record_type.0 ≡ true) (no-event : is_event s ≡ false) where
+  no_stop : eqb (head_of s).record_type.0 stop ≡ false
   no_stop =
-      let in_range = range-true 2 4 (head_of s).record_type levelled in
-      ne_eqb (head_of s).record_type stop (λ e. omega (arith, in_range))
+      let in_range = range-true 2 4 (head_of s).record_type.0 levelled in
+      ne_eqb (head_of s).record_type.0 stop (λ e. omega (arith, in_range))
 
-  no-off-grid : eqb (head_of s).record_type off_grid ≡ false
+  no-off-grid : eqb (head_of s).record_type.0 off_grid ≡ false
   no-off-grid =
-      let in_range = range-true 2 4 (head_of s).record_type levelled in
-      ne_eqb (head_of s).record_type off_grid (λ e. omega (arith, in_range))
+      let in_range = range-true 2 4 (head_of s).record_type.0 levelled in
+      ne_eqb (head_of s).record_type.0 off_grid (λ e. omega (arith, in_range))
 
   pub same-state : changes_state b s ≡ false
   unfolding changes_state
@@ -91,7 +91,7 @@ module _ (unit : ℕ) (b s : List ℕ) (block-whole : block_whole unit b ≡ tru
   changes : is_operation change s ≡ true
   changes = (every_true _ times).0
 
-  levelled : is_levelled (head_of s).record_type ≡ true
+  levelled : is_levelled (head_of s).record_type.0 ≡ true
   levelled = (every_true _ times).1.0
 
   none_written : (i : ℕ) → i < slot_count → slot_at (block_after b s) i ≡ pick (stays b s i) (slot_at b i) (zeros slot_size)

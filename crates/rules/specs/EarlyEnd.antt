@@ -16,7 +16,7 @@ unfoldable pub early_end_passes : List ℕ → List ℕ → Bool
 early_end_passes b s =
     every
     (question4 (head_of s) (parts_of s)
-    ∷ kind_allows (unit_head b).kind (record_of s)
+    ∷ kind_allows (unit_head b).kind.0 (record_of s)
     ∷ early_end_times (head_of s)
     ∷ is_ok (cover_of (parts_of s) (head_of s).period)
     ∷ powers_in_range (parts_of s)

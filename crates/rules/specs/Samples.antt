@@ -93,11 +93,11 @@ created type start end parts =
     encode_report (record {
       unit = 1;
       owner = 7;
-      record_type = type;
-      operation = create;
-      direction = generation;
-      start_mark = planned;
-      end_mark = planned;
+      record_type = record { 0 = type };
+      operation = record { 0 = create };
+      direction = record { 0 = generation };
+      start_mark = record { 0 = planned };
+      end_mark = record { 0 = planned };
       qualification = 0;
       ordinal = 1;
       part_count = length parts;
@@ -129,7 +129,7 @@ slot_of s = slot_bytes (record_of s) (parts_of s)
 -- "Roster entry, 28 bytes: mark 4A 47; owner u16 ..; kind u8 ..; state u8; qualification u8; zero u8; since u32; Pmax and Pmin .."
 unfoldable pub entry_bytes : RosterEntry → List ℕ
 entry_bytes e =
-    bytes_of 2 entry_mark ++ bytes_of 2 e.owner ++ (e.kind ∷ e.row.state ∷ e.row.qualification ∷ 0 ∷ [])
+    bytes_of 2 entry_mark ++ bytes_of 2 e.owner ++ (e.kind.0 ∷ e.row.state.0 ∷ e.row.qualification ∷ 0 ∷ [])
     ++ bytes_of 4 e.row.since.0 ++ powers_bytes e.powers
 
 abbrev pub powers_of : ℕ → ℕ → ℕ → ℕ → Powers
@@ -142,7 +142,7 @@ powers_of max min consumption_max consumption_min = record {
 abbrev pub entry_for : ℕ → ℕ → ℕ → Powers → RosterEntry
 entry_for owner kind state powers = record {
   owner = owner;
-  kind = kind;
-  row = record { state = state; qualification = 0; since = minute 0 };
+  kind = record { 0 = kind };
+  row = record { state = record { 0 = state }; qualification = 0; since = minute 0 };
   powers = powers;
 }

@@ -25,7 +25,7 @@ unfolding bytes_of
 range_put s at r = put_on s at (bytes_of 4 r.max.0) (bytes_of 4 r.min.0) refl
 
 pub entry_put : (s : List ℕ) (at : ℕ) (e : RosterEntry)
-    → put (put (put (put (put (put s at (bytes_of 2 entry_mark)) (at + 2) (bytes_of 2 e.owner)) (at + 4) (e.kind ∷ e.row.state ∷ e.row.qualification ∷ 0 ∷ []))
+    → put (put (put (put (put (put s at (bytes_of 2 entry_mark)) (at + 2) (bytes_of 2 e.owner)) (at + 4) (e.kind.0 ∷ e.row.state.0 ∷ e.row.qualification ∷ 0 ∷ []))
     (at + 8) (bytes_of 4 e.row.since.0)) (at + 12) (bytes_of 4 e.powers.generation.max.0 ++ bytes_of 4 e.powers.generation.min.0))
     (at + 20) (bytes_of 4 e.powers.consumption.max.0 ++ bytes_of 4 e.powers.consumption.min.0)
     ≡ put s at (entry_bytes e)
@@ -33,7 +33,7 @@ unfolding bytes_of entry_bytes
 entry_put s at e =
     put_on s at _ _
     (put_on s at _ _
-    (put_on s at _ _ (put_on s at _ (e.kind ∷ e.row.state ∷ e.row.qualification ∷ 0 ∷ []) (put_on s at (bytes_of 2 entry_mark) (bytes_of 2 e.owner) refl))))
+    (put_on s at _ _ (put_on s at _ (e.kind.0 ∷ e.row.state.0 ∷ e.row.qualification ∷ 0 ∷ []) (put_on s at (bytes_of 2 entry_mark) (bytes_of 2 e.owner) refl))))
 
 pub roster_put : (s : List ℕ)
     → put (put s 0 (entry_bytes (entry_for 7 W1 P (powers_of 200000 80000 0 0)))) 28 (entry_bytes (entry_for 9 Z1 0 (powers_of 50000 0 0 0)))

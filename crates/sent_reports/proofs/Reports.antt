@@ -21,7 +21,7 @@ use Rattle.sent_reports.proofs.Puts.{put_on}
 
 pub head_put : (s : List ℕ) (x : Sent)
     → put (put (put (put (put (put (put (put (put (put (put s 0 (bytes_of 2 report_mark)) 2 (bytes_of 2 x.unit)) 4 (bytes_of 2 x.owner))
-    6 (x.record_type ∷ create ∷ generation ∷ x.start_mark ∷ planned ∷ x.qualification ∷ [])) 12 (bytes_of 2 1)) 14 (bytes_of 2 (parts_sent x)))
+    6 (x.record_type.0 ∷ create ∷ generation ∷ x.start_mark.0 ∷ planned ∷ x.qualification ∷ [])) 12 (bytes_of 2 1)) 14 (bytes_of 2 (parts_sent x)))
     16 (replicate 16 x.place)) 32 (bytes_of 4 x.stamp)) 36 (bytes_of 4 x.start)) 40 (bytes_of 4 x.end)) 44 (bytes_of 4 0)
     ≡ put s 0 (encode_head (head_sent x))
 unfolding bytes_of encode_head
@@ -33,7 +33,7 @@ head_put s x =
     (put_on s 0 _ (replicate 16 x.place)
     (put_on s 0 _ (bytes_of 2 (parts_sent x))
     (put_on s 0 _ (bytes_of 2 1)
-    (put_on s 0 _ (x.record_type ∷ create ∷ generation ∷ x.start_mark ∷ planned ∷ x.qualification ∷ [])
+    (put_on s 0 _ (x.record_type.0 ∷ create ∷ generation ∷ x.start_mark.0 ∷ planned ∷ x.qualification ∷ [])
     (put_on s 0 _ (bytes_of 2 x.owner)
     (put_on s 0 (bytes_of 2 report_mark) (bytes_of 2 x.unit) refl)))))))))
 
@@ -78,5 +78,5 @@ lengths x false (Some step) = (refl, omega arith)
 pub report_read : (s : List ℕ) (x : Sent) → 82 ≤ length s → take (length_sent x) (put s 0 (report_sent x)) ≡ report_sent x
 unfolding report_sent part
 report_read s x room =
-    let ends = lengths x (is_levelled x.record_type) x.step in
+    let ends = lengths x (is_levelled x.record_type.0) x.step in
     rw (← ends.0) (put_read s 0 (report_sent x) (rw ends.0 (omega arith)))

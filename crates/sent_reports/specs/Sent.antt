@@ -17,8 +17,8 @@ abbrev pub sent_as : ℕ → ℕ → ℕ → ℕ → ℕ → ℕ → ℕ → ℕ
 sent_as type mark qualification place stamp start end power = record {
   unit = 1;
   owner = 7;
-  record_type = type;
-  start_mark = mark;
+  record_type = record { 0 = type };
+  start_mark = record { 0 = mark };
   qualification = qualification;
   place = place;
   stamp = stamp;
@@ -50,7 +50,7 @@ step_parts None = 1
 step_parts (Some step) = 2
 
 abbrev pub parts_sent : Sent → ℕ
-parts_sent s = pick (is_levelled s.record_type) (step_parts s.step) 0
+parts_sent s = pick (is_levelled s.record_type.0) (step_parts s.step) 0
 
 abbrev pub length_sent : Sent → ℕ
 length_sent s = text_after (parts_sent s)
@@ -72,10 +72,10 @@ head_sent s = record {
   unit = s.unit;
   owner = s.owner;
   record_type = s.record_type;
-  operation = create;
-  direction = generation;
+  operation = record { 0 = create };
+  direction = record { 0 = generation };
   start_mark = s.start_mark;
-  end_mark = planned;
+  end_mark = record { 0 = planned };
   qualification = s.qualification;
   ordinal = 1;
   part_count = parts_sent s;
@@ -86,4 +86,4 @@ head_sent s = record {
 }
 
 unfoldable pub report_sent : Sent → List ℕ
-report_sent s = encode_report (head_sent s) (pick (is_levelled s.record_type) (levels_sent s s.step) []) []
+report_sent s = encode_report (head_sent s) (pick (is_levelled s.record_type.0) (levels_sent s s.step) []) []

@@ -12,10 +12,8 @@ ghost use Rattle.rules.specs.Desk.{set_up, new_register};
 ghost use Rattle.sent_reports.specs.Sent.{sent_as, derating_over, derating_sent, forced_sent, stop_sent, event_sent, parts_sent, length_sent, part_sent, levels_sent, head_sent, report_sent};
 
 use quantities::{Kilowatt, Minute};
-use records::{
-    CREATE, EVENT, EXECUTED, FORCED_WORK, GENERATION, P, PLANNED, POSITIVE_DERATING, STOP, W1, Z1,
-};
-use rules::{PowerRange, Powers, RosterEntry, Row};
+use report::{Direction, Mark, Operation, RecordType};
+use rules::{Kind, PowerRange, Powers, RosterEntry, Row, State};
 
 // "D is 13,760,640, which is 2026-03-01 00:00."
 pub const D: u32 = 13760640;
@@ -37,8 +35,8 @@ pub struct Step {
 pub struct Sent {
     pub unit: u16,
     pub owner: u16,
-    pub record_type: u8,
-    pub start_mark: u8,
+    pub record_type: RecordType,
+    pub start_mark: Mark,
     pub qualification: u8,
     pub place: u8,
     pub stamp: u32,
@@ -55,8 +53,8 @@ pub fn derating(place: u8) -> Sent
     Sent {
         unit: 1,
         owner: 7,
-        record_type: POSITIVE_DERATING,
-        start_mark: PLANNED,
+        record_type: RecordType::POSITIVE_DERATING,
+        start_mark: Mark::PLANNED,
         qualification: 0,
         place,
         stamp: D + 10,
@@ -82,19 +80,19 @@ pub fn forced(place: u8, power: u32) -> Sent
     ensures { result ≡ forced_sent place power }
 {
     Sent {
-        record_type: FORCED_WORK,
+        record_type: RecordType::FORCED_WORK,
         power,
         ..derating(place)
     }
 }
 
 // A record that has begun.
-fn begun(record_type: u8, place: u8, qualification: u8, start: u32, end: u32) -> Sent
-    ensures { result ≡ sent_as record_type executed qualification place (D + 10) start end 20000 }
+fn begun(record_type: RecordType, place: u8, qualification: u8, start: u32, end: u32) -> Sent
+    ensures { result ≡ sent_as record_type.0 executed qualification place (D + 10) start end 20000 }
 {
     Sent {
         record_type,
-        start_mark: EXECUTED,
+        start_mark: Mark::EXECUTED,
         qualification,
         start,
         end,
@@ -106,14 +104,14 @@ fn begun(record_type: u8, place: u8, qualification: u8, start: u32, end: u32) ->
 pub fn begun_stop(place: u8, qualification: u8, start: u32) -> Sent
     ensures { result ≡ stop_sent place qualification start }
 {
-    begun(STOP, place, qualification, start, D + 180)
+    begun(RecordType::STOP, place, qualification, start, D + 180)
 }
 
 // "events start at D+10, end = start, mark 2, identifier zero"
 pub fn event(code: u8) -> Sent
     ensures { result ≡ event_sent code }
 {
-    begun(EVENT, 0, code, D + 10, D + 10)
+    begun(RecordType::EVENT, 0, code, D + 10, D + 10)
 }
 
 #[tactic(auto, unfolding(fields::specs::Lists::pick))]
@@ -145,11 +143,11 @@ fn put_head(report: &mut [u8], s: Sent)
     fields::put_u16(report, 2, s.unit);
     fields::put_u16(report, 4, s.owner);
     let codes = [
-        s.record_type,
-        CREATE,
-        GENERATION,
-        s.start_mark,
-        PLANNED,
+        s.record_type.0,
+        Operation::CREATE.0,
+        Direction::GENERATION.0,
+        s.start_mark.0,
+        Mark::PLANNED.0,
         s.qualification,
     ];
     fields::put_bytes(report, 6, &codes);
@@ -189,7 +187,7 @@ fn put_levels(report: &mut [u8], s: Sent)
 
 #[tactic(auto, unfolding(fields::specs::Lists::pick, fields::specs::Lists::put, report::specs::Encoded::encode_parts))]
 fn put_parts(report: &mut [u8], s: Sent)
-    ensures { report.new ≡ put report.old 48 (encode_parts (pick (is_levelled s.record_type) (levels_sent s s.step) [])) }
+    ensures { report.new ≡ put report.old 48 (encode_parts (pick (is_levelled s.record_type.0) (levels_sent s s.step) [])) }
 {
     if records::is_levelled(s.record_type) {
         put_levels(report, s);
@@ -217,8 +215,8 @@ pub fn compose(buffer: &mut [u8], s: Sent) -> &mut [u8]
 }
 
 // An owner's unit of a kind, in this state since D, with powers of generation alone.
-fn entry(owner: u16, kind: u8, state: u8, max: u32, min: u32) -> RosterEntry
-    ensures { result ≡ entry_for owner kind state (powers_of max min 0 0) }
+fn entry(owner: u16, kind: Kind, state: State, max: u32, min: u32) -> RosterEntry
+    ensures { result ≡ entry_for owner kind.0 state.0 (powers_of max min 0 0) }
 {
     let row = Row {
         state,
@@ -252,7 +250,7 @@ fn put_entry(roster: &mut [u8], at: usize, e: RosterEntry)
 {
     fields::put_u16(roster, at, 0x474A);
     fields::put_u16(roster, at + 2, e.owner);
-    let row = [e.kind, e.row.state, e.row.qualification, 0];
+    let row = [e.kind.0, e.row.state.0, e.row.qualification, 0];
     fields::put_bytes(roster, at + 4, &row);
     fields::put_u32(roster, at + 8, e.row.since.0);
     put_range(roster, at + 12, e.powers.generation);
@@ -273,8 +271,8 @@ fn put_range(roster: &mut [u8], at: usize, r: PowerRange)
 pub fn put_roster_a(roster: &mut [u8])
     ensures { roster.new ≡ put roster.old 0 roster_a }
 {
-    put_entry(roster, 0, entry(7, W1, P, 200000, 80000));
-    put_entry(roster, 28, entry(9, Z1, 0, 50000, 0));
+    put_entry(roster, 0, entry(7, Kind::W1, State::P, 200000, 80000));
+    put_entry(roster, 28, entry(9, Kind::Z1, State::NONE, 50000, 0));
 }
 
 // Sets the register up from roster A. One of another size stays as it is.

@@ -43,4 +43,4 @@ validated_by n unit h ps =
     pick (eqb n 0) (Ok (question16 unit.powers h ps)) (Err (record { number = n; part = part_beside n h ps }))
 
 abbrev pub validated_of : UnitHead → Head → List Part → Result Bool Refusal
-validated_of unit h ps = validated_by (validation_number unit.kind h ps 0) unit h ps
+validated_of unit h ps = validated_by (validation_number unit.kind.0 h ps 0) unit h ps

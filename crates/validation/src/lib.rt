@@ -8,11 +8,8 @@ ghost use Rattle.rules.specs.Questions.{record_by, quarter_hour, part_on_quarter
 ghost use Rattle.validation.specs.Parts.{part_of_size, answers_of, cover_asked, validated_of};
 
 use quantities::{Kilowatt, Minute};
-use records::{
-    CHANGE, CREATE, EVENT, EXECUTED, NEGATIVE_DERATING, OFF_GRID, PLANNED, POSITIVE_DERATING, STOP,
-    WITHDRAW, must,
-};
-use report::{Broken, Head, Part};
+use records::must;
+use report::{Broken, Head, Mark, Operation, Part, RecordType};
 use rules::{PowerRange, Refusal, UnitHead};
 
 // What is asked of each part: its times (question 4), its end on a quarter hour (7), its power (9), its derating (16).
@@ -42,19 +39,19 @@ fn part_is_on_quarter(p: Part, stamp: Minute) -> bool
     (p.period.end <= stamp) | is_quarter_hour(p.period.end)
 }
 
-fn derating_fits(range: PowerRange, record_type: u8, size: Kilowatt) -> bool
-    ensures { result ≡ derating_fits range record_type (part_of_size size) }
+fn derating_fits(range: PowerRange, record_type: RecordType, size: Kilowatt) -> bool
+    ensures { result ≡ derating_fits range record_type.0 (part_of_size size) }
 {
     let power = quantities::wide(size);
     let max = quantities::wide(range.max);
     let min = quantities::wide(range.min);
-    (!(record_type == POSITIVE_DERATING) | (power <= max))
-        & (!(record_type == NEGATIVE_DERATING) | (power + min <= max))
+    (!(record_type == RecordType::POSITIVE_DERATING) | (power <= max))
+        & (!(record_type == RecordType::NEGATIVE_DERATING) | (power + min <= max))
 }
 
 // One pass over the parts. Each derating fits if the largest does.
-fn ask_parts(report: &[u8], stamp: Minute, range: PowerRange, record_type: u8) -> PartAnswers
-    ensures { result ≡ answers_of (parts_of report.now) stamp range record_type }
+fn ask_parts(report: &[u8], stamp: Minute, range: PowerRange, record_type: RecordType) -> PartAnswers
+    ensures { result ≡ answers_of (parts_of report.now) stamp range record_type.0 }
 {
     let k = report::part_count(report);
     let mut times = true;
@@ -81,8 +78,8 @@ fn ask_parts(report: &[u8], stamp: Minute, range: PowerRange, record_type: u8) -
 fn end_mark_in_range(h: Head) -> bool
     ensures { result ≡ end_mark_in_range h }
 {
-    let event_or_withdrawal = (h.record_type == EVENT) | (h.operation == WITHDRAW);
-    (h.end_mark == PLANNED) | (records::ends_early(h) & !event_or_withdrawal)
+    let event_or_withdrawal = (h.record_type == RecordType::EVENT) | (h.operation == Operation::WITHDRAW);
+    (h.end_mark == Mark::PLANNED) | (records::ends_early(h) & !event_or_withdrawal)
 }
 
 // Question 4, but for the parts.
@@ -91,20 +88,20 @@ fn head_passes(h: Head) -> bool
 {
     let r = records::record_by(h);
     let zero = records::identifier_zero(r);
-    records::within(STOP, EVENT, h.record_type)
-        & records::within(CREATE, WITHDRAW, h.operation)
+    ((RecordType::STOP <= h.record_type) & (h.record_type <= RecordType::EVENT))
+        & ((Operation::CREATE <= h.operation) & (h.operation <= Operation::WITHDRAW))
         & end_mark_in_range(h)
         & records::fields_in_range(r)
-        & (!(h.record_type == EVENT) | ((h.operation == CREATE) & zero))
+        & (!(h.record_type == RecordType::EVENT) | ((h.operation == Operation::CREATE) & zero))
 }
 
 // Question 6, of an early end. Here and below minutes are compared by their numbers: tried as `m < n`, where `cc` stops at a limit.
 fn early_end_is_consistent(h: Head) -> bool
     ensures { result ≡ early_end_times h }
 {
-    (h.operation == CHANGE)
+    (h.operation == Operation::CHANGE)
         & records::is_levelled(h.record_type)
-        & (h.start_mark == EXECUTED)
+        & (h.start_mark == Mark::EXECUTED)
         & (h.period.start.0 < h.period.end.0)
         & (h.period.end.0 <= h.stamp.0)
 }
@@ -113,15 +110,15 @@ fn early_end_is_consistent(h: Head) -> bool
 fn times_are_consistent(h: Head) -> bool
     ensures { result ≡ question6 h }
 {
-    let begun = h.start_mark == EXECUTED;
+    let begun = h.start_mark == Mark::EXECUTED;
     let past = h.period.start.0 <= h.stamp.0;
     let event = begun & past & (h.period.end.0 == h.period.start.0);
     let others = (h.period.start.0 < h.period.end.0)
         & (h.stamp.0 < h.period.end.0)
         & records::choose(begun, past, h.stamp.0 < h.period.start.0)
-        & (!(h.record_type == OFF_GRID) | begun);
+        & (!(h.record_type == RecordType::OFF_GRID) | begun);
     records::choose(
-        h.record_type == EVENT,
+        h.record_type == RecordType::EVENT,
         event,
         records::choose(records::ends_early(h), early_end_is_consistent(h), others),
     )
@@ -131,7 +128,7 @@ fn times_are_consistent(h: Head) -> bool
 fn head_is_on_quarters(h: Head) -> bool
     ensures { result ≡ (quarter_hour h.period.end && (begun (record_by h) || quarter_hour h.period.start)) }
 {
-    let begun = h.start_mark == EXECUTED;
+    let begun = h.start_mark == Mark::EXECUTED;
     is_quarter_hour(h.period.end) & (begun | is_quarter_hour(h.period.start))
 }
 
@@ -139,7 +136,7 @@ fn head_is_on_quarters(h: Head) -> bool
 fn judge_cover(h: Head, report: &[u8]) -> Result<(), Broken>
     ensures { result ≡ question8 h (parts_of report.now) }
 {
-    if (h.operation == WITHDRAW) | !records::is_levelled(h.record_type) {
+    if (h.operation == Operation::WITHDRAW) | !records::is_levelled(h.record_type) {
         return report::no_parts(report);
     }
     report::cover_of(report, h.period)
@@ -168,7 +165,7 @@ pub fn validate(unit: UnitHead, h: Head, report: &[u8]) -> Result<bool, Refusal>
     must(h, 4, head_passes(h) & parts.times)?;
     must(h, 5, records::kind_allows(unit.kind, r))?;
     must(h, 6, times_are_consistent(h))?;
-    let quarters = (h.record_type == EVENT) | (head_is_on_quarters(h) & parts.on_quarters);
+    let quarters = (h.record_type == RecordType::EVENT) | (head_is_on_quarters(h) & parts.on_quarters);
     must(h, 7, quarters)?;
     must_cover(h, report)?;
     must(h, 9, parts.powers)?;

@@ -6,8 +6,3 @@ pub returns-in-Some : goal.returns-in-Some
 returns-in-Some c =
     let copied = c.in-Some.ensures.bytes in
     c.pair_in.ensures ∙ rw (uint-copied 4 _ _ _ 8 copied 0 (omega arith), uint-copied 4 _ _ _ 8 copied 4 (omega arith), add-zero)
-
-pub returns-in-None : goal.returns-in-None
-returns-in-None c =
-    let copied = c.bytes_at.ensures in
-    c.pair_in-in-None.ensures ∙ rw (uint-copied 4 _ _ _ 8 copied 0 (omega arith), uint-copied 4 _ _ _ 8 copied 4 (omega arith), add-zero)

@@ -9,4 +9,4 @@ pub loop-i-preserved : goal.loop-i-preserved
 loop-i-preserved c = filled_next _ c.loop-i.invariant c.loop-i-test.true c.lane_at-lane.ensures
 
 pub returns : goal.returns
-returns c = records-levels _ c.args.swept c.args.direction (filled-end _ c.loop-i.invariant c.loop-i-test.false)
+returns c = records-levels _ c.args.swept c.args.direction.0 (filled-end _ c.loop-i.invariant c.loop-i-test.false)

@@ -3,6 +3,3 @@ use Rattle.report.proofs.part_at.Goals as goal
 
 pub returns-in-Some : goal.returns-in-Some
 returns-in-Some c = part-copied _ _ (c.in-Some.ensures.bytes) c.part_in.ensures
-
-pub returns-in-None : goal.returns-in-None
-returns-in-None c = part-copied _ _ c.bytes_at.ensures c.part_in-in-None.ensures

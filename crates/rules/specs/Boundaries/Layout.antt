@@ -98,8 +98,8 @@ bytes =
     ∷ same_bytes report_as_bytes (encode_report (head_of report_as_bytes) (parts_of report_as_bytes) (0x20 ∷ 0x21 ∷ 0x22 ∷ []))
     ∷ eqb (head_of report_as_bytes).unit 0x0102
     ∷ eqb (head_of report_as_bytes).owner 0x0304
-    ∷ eqb (head_of report_as_bytes).operation 6
-    ∷ eqb (head_of report_as_bytes).end_mark 9
+    ∷ eqb (head_of report_as_bytes).operation.0 6
+    ∷ eqb (head_of report_as_bytes).end_mark.0 9
     ∷ eqb (head_of report_as_bytes).part_count 2
     ∷ eqb (head_of report_as_bytes).text_length 3
     ∷ same_bytes slot_as_bytes (slot_of report_as_bytes)
