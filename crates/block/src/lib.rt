@@ -1,7 +1,7 @@
 // A unit's block and the roster: decoded, and question 1.
 #![tactic(auto)]
 
-ghost use Rattle.std.specs.Prelude.{◌≡◌, Bool, not, ◌||◌, List, ℕ, ◌+◌, ◌*◌, ◌≤◌, ◌<◌, length, drop};
+ghost use Rattle.std.specs.Prelude.{◌≡◌, Bool, not, ◌&&◌, ◌||◌, eqb, ltb, leb, List, ℕ, ◌+◌, ◌*◌, ◌≤◌, ◌<◌, length, drop};
 ghost use Rattle.std.proofs.Common.{lit≤};
 ghost use Rattle.fields.specs.Fields.{u32_at};
 ghost use Rattle.fields.specs.Lists.{all, series, part, put};
@@ -10,6 +10,8 @@ ghost use Rattle.rules.specs.declared.Record.{Record};
 ghost use Rattle.rules.specs.declared.UnitHead.{UnitHead};
 ghost use Rattle.rules.specs.Roster.{most_units, entry_size, powers_at, entry_of, entry_good, piece, pieces_pass, roster_good};
 ghost use Rattle.rules.specs.Block.{pairs_start, pair_start, slot_size, slot_count, block_size, zeros, zeros_at, unit_head, HeadFits, slot_at, used, record_in, stored_count};
+ghost use Rattle.rules.specs.Codes.{between, stop, off_grid};
+ghost use Rattle.rules.specs.Records.{begun};
 ghost use Rattle.rules.specs.Whole.{records_apart, slot_whole, slots_apart, block_whole, register_whole};
 ghost use Rattle.rules.specs.After.{put_row};
 ghost use Rattle.block.specs.Codec.{put_unit, put_last_stamp, put_powers, put_unit_head, codes_bytes, times_bytes, put_record, pair_bytes_of};
@@ -281,17 +283,28 @@ fn pairs_fit(z: &[u8], k: u16, period: Period) -> bool
     pairs_rise(z, k, period)
 }
 
+// An event is not kept, and off-grid work only once begun.
+fn type_holds(r: Record) -> bool
+    ensures { result ≡ (between stop off_grid r.record_type.0 && (not (eqb r.record_type.0 off_grid) || begun r)) }
+{
+    (RecordType::STOP <= r.record_type)
+        & (r.record_type <= RecordType::OFF_GRID)
+        & (!(r.record_type == RecordType::OFF_GRID) | has_begun(r))
+}
+
+fn times_hold(last: Minute, r: Record) -> bool
+    ensures { result ≡ (ltb r.period.start.0 r.period.end.0 && leb r.stamp.0 last.0 && (not (begun r) || leb r.period.start.0 r.stamp.0)) }
+{
+    (r.period.start < r.period.end)
+        & (r.stamp <= last)
+        & (!has_begun(r) | (r.period.start <= r.stamp))
+}
+
 // What question 1 asks of a record, but for its parts.
 fn holds_alone(kind: Kind, last: Minute, r: Record) -> bool
     ensures { result ≡ holds_alone kind.0 last r }
 {
-    ((RecordType::STOP <= r.record_type) & (r.record_type <= RecordType::OFF_GRID))
-        & fields_in_range(r)
-        & kind_allows(kind, r)
-        & (!(r.record_type == RecordType::OFF_GRID) | has_begun(r))
-        & (r.period.start < r.period.end)
-        & (r.stamp <= last)
-        & (!has_begun(r) | (r.period.start <= r.stamp))
+    type_holds(r) & fields_in_range(r) & kind_allows(kind, r) & times_hold(last, r)
 }
 
 fn slot_whole(kind: Kind, last: Minute, z: &[u8]) -> bool
