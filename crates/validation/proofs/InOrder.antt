@@ -21,7 +21,7 @@ use Rattle.validation.specs.declared.PartAnswers.{PartAnswers}
 use Rattle.validation.specs.FirstNo.{◌then◌, outcome}
 use Rattle.validation.specs.Parts.{answers_of, refused_by, cover_asked, validation_asked, validated_of}
 
-then_assoc : {A : Type 0} (x y : Result ⊤ Refusal) (z : Result A Refusal) → ((x then y) then z) ≡ (x then (y then z))
+pub then_assoc : {A : Type 0} (x y : Result ⊤ Refusal) (z : Result A Refusal) → ((x then y) then z) ≡ (x then (y then z))
 then_assoc (Ok _) y z = refl
 then_assoc (Err r) y z = refl
 
