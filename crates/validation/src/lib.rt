@@ -3,6 +3,7 @@
 
 ghost use Rattle.std.specs.Prelude.{◌≡◌, ◌&&◌, ◌||◌, []};
 ghost use Rattle.report.specs.Report.{parts_of};
+ghost use Rattle.rules.specs.Codes.{between, stop, event, create, withdraw};
 ghost use Rattle.rules.specs.Records.{part_times, begun};
 ghost use Rattle.rules.specs.Questions.{record_by, quarter_hour, part_on_quarter, derating_fits, end_mark_in_range, early_end_times, question4, question6, question8};
 ghost use Rattle.validation.specs.Parts.{part_of_size, answers_of, cover_asked, validated_of};
@@ -50,7 +51,12 @@ fn derating_fits(range: PowerRange, record_type: RecordType, size: Kilowatt) -> 
 }
 
 // One pass over the parts. Each derating fits if the largest does.
-fn ask_parts(report: &[u8], stamp: Minute, range: PowerRange, record_type: RecordType) -> PartAnswers
+fn ask_parts(
+    report: &[u8],
+    stamp: Minute,
+    range: PowerRange,
+    record_type: RecordType,
+) -> PartAnswers
     ensures { result ≡ answers_of (parts_of report.now) stamp range record_type.0 }
 {
     let k = report::part_count(report);
@@ -78,8 +84,21 @@ fn ask_parts(report: &[u8], stamp: Minute, range: PowerRange, record_type: Recor
 fn end_mark_in_range(h: Head) -> bool
     ensures { result ≡ end_mark_in_range h }
 {
-    let event_or_withdrawal = (h.record_type == RecordType::EVENT) | (h.operation == Operation::WITHDRAW);
+    let event_or_withdrawal = (h.record_type == RecordType::EVENT)
+        | (h.operation == Operation::WITHDRAW);
     (h.end_mark == Mark::PLANNED) | (records::ends_early(h) & !event_or_withdrawal)
+}
+
+fn type_in_range(t: RecordType) -> bool
+    ensures { result ≡ between stop event t.0 }
+{
+    (RecordType::STOP <= t) & (t <= RecordType::EVENT)
+}
+
+fn operation_in_range(o: Operation) -> bool
+    ensures { result ≡ between create withdraw o.0 }
+{
+    (Operation::CREATE <= o) & (o <= Operation::WITHDRAW)
 }
 
 // Question 4, but for the parts.
@@ -88,8 +107,8 @@ fn head_passes(h: Head) -> bool
 {
     let r = records::record_by(h);
     let zero = records::identifier_zero(r);
-    ((RecordType::STOP <= h.record_type) & (h.record_type <= RecordType::EVENT))
-        & ((Operation::CREATE <= h.operation) & (h.operation <= Operation::WITHDRAW))
+    type_in_range(h.record_type)
+        & operation_in_range(h.operation)
         & end_mark_in_range(h)
         & records::fields_in_range(r)
         & (!(h.record_type == RecordType::EVENT) | ((h.operation == Operation::CREATE) & zero))
@@ -165,7 +184,8 @@ pub fn validate(unit: UnitHead, h: Head, report: &[u8]) -> Result<bool, Refusal>
     must(h, 4, head_passes(h) & parts.times)?;
     must(h, 5, records::kind_allows(unit.kind, r))?;
     must(h, 6, times_are_consistent(h))?;
-    let quarters = (h.record_type == RecordType::EVENT) | (head_is_on_quarters(h) & parts.on_quarters);
+    let quarters = (h.record_type == RecordType::EVENT)
+        | (head_is_on_quarters(h) & parts.on_quarters);
     must(h, 7, quarters)?;
     must_cover(h, report)?;
     must(h, 9, parts.powers)?;

@@ -37,7 +37,7 @@ returns-in_err-must-4 c =
     let a5 = passed-of h 5 (c.kind_allows.ensures ∙ rw c.record_by-r.ensures) c.must-2.ensures c.in_ok-must-2.was in
     let a6 = passed-of h 6 c.times_are_consistent.ensures c.must-3.ensures c.in_ok-must-3.was in
     let up = err_from_is_err_and c.from_residual-in_err-must-4.result c.from_residual-in_err-must-4.ensures.1 in
-    rw (up.1, up.2) (refused-at-7 c.args.unit h _ a4 a5 a6 (failed-of h 7 (quarters-join h _ c.head_is_on_quarters.ensures asked.on_quarters) c.must-4.ensures c.in_err-must-4.was))
+    rw (up.1, up.2) (refused-at-7 c.args.unit h _ a4 a5 a6 (failed-of h 7 (quarters-join h _ c.eq.ensures c.head_is_on_quarters.ensures asked.on_quarters) c.must-4.ensures c.in_err-must-4.was))
 
 pub returns-in_err-must_cover : goal.returns-in_err-must_cover
 returns-in_err-must_cover c =
@@ -46,7 +46,7 @@ returns-in_err-must_cover c =
     let a4 = passed-of h 4 (fields_join h _ c.head_passes.ensures asked.times) c.must.ensures c.in_ok-must.was in
     let a5 = passed-of h 5 (c.kind_allows.ensures ∙ rw c.record_by-r.ensures) c.must-2.ensures c.in_ok-must-2.was in
     let a6 = passed-of h 6 c.times_are_consistent.ensures c.must-3.ensures c.in_ok-must-3.was in
-    let a7 = passed-of h 7 (quarters-join h _ c.head_is_on_quarters.ensures asked.on_quarters) c.must-4.ensures c.in_ok-must-4.was in
+    let a7 = passed-of h 7 (quarters-join h _ c.eq.ensures c.head_is_on_quarters.ensures asked.on_quarters) c.must-4.ensures c.in_ok-must-4.was in
     let up = err_from_is_err_and c.from_residual-in_err-must_cover.result c.from_residual-in_err-must_cover.ensures.1 in
     rw (up.1, up.2) (refused-at-8 c.args.unit h _ a4 a5 a6 a7 c.must_cover.ensures c.in_err-must_cover.was)
 
@@ -57,7 +57,7 @@ returns-in_err-must-5 c =
     let a4 = passed-of h 4 (fields_join h _ c.head_passes.ensures asked.times) c.must.ensures c.in_ok-must.was in
     let a5 = passed-of h 5 (c.kind_allows.ensures ∙ rw c.record_by-r.ensures) c.must-2.ensures c.in_ok-must-2.was in
     let a6 = passed-of h 6 c.times_are_consistent.ensures c.must-3.ensures c.in_ok-must-3.was in
-    let a7 = passed-of h 7 (quarters-join h _ c.head_is_on_quarters.ensures asked.on_quarters) c.must-4.ensures c.in_ok-must-4.was in
+    let a7 = passed-of h 7 (quarters-join h _ c.eq.ensures c.head_is_on_quarters.ensures asked.on_quarters) c.must-4.ensures c.in_ok-must-4.was in
     let up = err_from_is_err_and c.from_residual-in_err-must-5.result c.from_residual-in_err-must-5.ensures.1 in
     rw (up.1, up.2) (refused-at-9 c.args.unit h _ a4 a5 a6 a7 c.must_cover.ensures c.in_ok-must_cover.was (failed-of h 9 asked.powers c.must-5.ensures c.in_err-must-5.was))
 
@@ -68,7 +68,7 @@ returns c =
     let a4 = passed-of h 4 (fields_join h _ c.head_passes.ensures asked.times) c.must.ensures c.in_ok-must.was in
     let a5 = passed-of h 5 (c.kind_allows.ensures ∙ rw c.record_by-r.ensures) c.must-2.ensures c.in_ok-must-2.was in
     let a6 = passed-of h 6 c.times_are_consistent.ensures c.must-3.ensures c.in_ok-must-3.was in
-    let a7 = passed-of h 7 (quarters-join h _ c.head_is_on_quarters.ensures asked.on_quarters) c.must-4.ensures c.in_ok-must-4.was in
+    let a7 = passed-of h 7 (quarters-join h _ c.eq.ensures c.head_is_on_quarters.ensures asked.on_quarters) c.must-4.ensures c.in_ok-must-4.was in
     let a9 = passed-of h 9 asked.powers c.must-5.ensures c.in_ok-must-5.was in
     ap Ok (deratings-asked c.args.unit h _ c.range_of-range.ensures asked.deratings)
     ∙ validated c.args.unit h _ a4 a5 a6 a7 c.must_cover.ensures c.in_ok-must_cover.was a9
