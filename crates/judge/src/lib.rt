@@ -124,7 +124,8 @@ fn begins(h: Head, held: Record) -> bool
 {
     (h.start_mark == Mark::EXECUTED)
         & ((h.record_type == RecordType::STOP) | (h.record_type == RecordType::OFF_GRID))
-        & ((h.operation == Operation::CREATE) | ((h.operation == Operation::CHANGE) & !(held.start_mark == Mark::EXECUTED)))
+        & ((h.operation == Operation::CREATE)
+            | ((h.operation == Operation::CHANGE) & !(held.start_mark == Mark::EXECUTED)))
 }
 
 fn changes_state(kind: Kind, h: Head, held: Record) -> bool
@@ -137,7 +138,9 @@ fn must_leave(h: Head, changes: bool, x: Record) -> bool
     ensures { result ≡ must_leave h changes x }
 {
     let r = records::record_by(h);
-    (!(h.operation == Operation::WITHDRAW) & records::records_clash(r, x) & records::record_closes(r, x))
+    (!(h.operation == Operation::WITHDRAW)
+        & records::records_clash(r, x)
+        & records::record_closes(r, x))
         | (changes & records::holds_state(x))
 }
 
@@ -203,6 +206,7 @@ fn free_slot(slots: [SlotAnswers; 8]) -> Option<u8>
     Some(i as u8)
 }
 
+#[tactic(auto, unfolding(fields::specs::Lists::pick))]
 fn has_transition(row: Row, h: Head) -> bool
     ensures { result ≡ has_transition row h }
 {
@@ -238,6 +242,7 @@ fn minutes_fit(
 }
 
 // The slot that an accepted report writes.
+#[tactic(auto, unfolding(crate::specs::Decided::written_by, fields::specs::Lists::pick))]
 fn slot_written(h: Head, slot: Option<u8>, free: Option<u8>) -> Option<u8>
     ensures { result ≡ written_by h slot free }
 {
@@ -352,7 +357,8 @@ fn one_stop_one_levelled(x: Record, y: Record) -> bool
 {
     let x_levelled = records::is_levelled(x.record_type);
     let y_levelled = records::is_levelled(y.record_type);
-    (x_levelled & (y.record_type == RecordType::STOP)) | ((x.record_type == RecordType::STOP) & y_levelled)
+    (x_levelled & (y.record_type == RecordType::STOP))
+        | ((x.record_type == RecordType::STOP) & y_levelled)
 }
 
 // Warning 1, of slot i.
