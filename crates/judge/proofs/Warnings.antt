@@ -7,7 +7,7 @@ use native.Mathlib.Omega.{arith}
 use native.Mathlib.Nat.{zero-add}
 use lib.Dec.{eqb}
 use lib.ListN.{get_or}
-use borrow.Author.Tests.{eq-eqb, ne_eqb}
+use Rattle.std.proofs.lemmas.Bool.{not-true, not-false}
 use Rattle.fields.specs.Lists.{pick, all, series}
 use Rattle.fields.proofs.Tests.{series-at}
 use Rattle.quantities.specs.Quantities.{overlap}
@@ -16,10 +16,10 @@ use Rattle.report.specs.Report.{head_of}
 use Rattle.rules.specs.declared.PowerRange.{PowerRange}
 use Rattle.rules.specs.declared.Record.{Record}
 use Rattle.rules.specs.declared.UnitHead.{UnitHead}
-use Rattle.rules.specs.Codes.{meet}
+use Rattle.rules.specs.Codes.{meet, forced_work}
 use Rattle.rules.specs.Block.{slot_at, used, record_in, unit_head}
 use Rattle.rules.specs.Questions.{event_head, record_by, range_of, leaves, vacates}
-use Rattle.rules.specs.Minutes.{block_records, above_max, below_min}
+use Rattle.rules.specs.Minutes.{block_records}
 use Rattle.rules.specs.After.{one_stop_one_levelled, block_after, some_slot, warns_overlap, warns_minute, warns_left, worth, warnings}
 use Rattle.levels.specs.declared.LevelWarnings.{LevelWarnings}
 use Rattle.levels.specs.Counted.{counted_records}
@@ -48,32 +48,29 @@ block-counted b =
     (λ j x y. series-at (λ i. used (slot_at b i)) 0 8 j false (omega arith) ∙ ap (λ (k : ℕ). used (slot_at b k)) (zero-add j))
 
 module _ (after : List ℕ) (h : Head) where
-  pub minutes-warn : {counted : List Bool} {u : UnitHead} {r : PowerRange} {g : LevelWarnings} {x y : ℕ} → h.record_type.0 ≡ 4
-      → counted ≡ series (λ i. used (slot_at after i)) 0 8 → u ≡ unit_head after → r ≡ range_of u.powers h.direction.0
-      → g ≡ level_warnings u.kind.0 r (counted_records after counted) h.direction.0 h.period.start.0 h.period.end.0
-      → x ≡ worth 2 g.above → y ≡ worth 4 g.below → x + y ≡ minute_warnings after h
-  unfolding warns_minute level_warnings
-  minutes-warn {counted} {u} {r} {g} {x} {y} t c f q p a b =
-      let forced = eq-eqb h.record_type.0 4 t in
-      let above : g.above ≡ warns_minute above_max after h = ap (λ (g : LevelWarnings). g.above) p ∙ rw
-      (forced, c, block-counted after, q, f) in
-      let below : g.below ≡ warns_minute below_min after h = ap (λ (g : LevelWarnings). g.below) p ∙ rw
-      (forced, c, block-counted after, q, f) in
-      rw (a, b, above, below)
+  -- warnings 2 and 4, of a type that is compared with forced work
+  module _ {others : Bool} (compared : others ≡ not (eqb h.record_type.0 forced_work)) where
+    pub minutes-silent : others ≡ true → 0 ≡ minute_warnings after h
+    unfolding warns_minute pick
+    minutes-silent e = rw (not-true _ (sym compared ∙ e))
 
-  pub minutes-silent : (h.record_type.0 ≡ 4 → ⊥) → 0 ≡ minute_warnings after h
-  unfolding warns_minute pick
-  minutes-silent ne = rw (ne_eqb h.record_type.0 4 ne)
+    pub minutes-warn : {counted : List Bool} {u : UnitHead} {r : PowerRange} {g : LevelWarnings} {x y : ℕ} → others ≡ false
+        → counted ≡ series (λ i. used (slot_at after i)) 0 8 → u ≡ unit_head after → r ≡ range_of u.powers h.direction.0
+        → g ≡ level_warnings u.kind.0 r (counted_records after counted) h.direction.0 h.period.start.0 h.period.end.0
+        → x ≡ worth 2 g.above → y ≡ worth 4 g.below → x + y ≡ minute_warnings after h
+    unfolding warns_minute level_warnings
+    minutes-warn e c f q p a b = rw (a, b, p, q, f, c, block-counted after, not-false _ (sym compared ∙ e))
 
-  pub no-warnings : (left : Bool) {v : Bool} → v ≡ vacates h → (event_head h || v) ≡ true → 0 ≡ warnings_on after h left
-  unfolding warnings_on pick
-  no-warnings left e t = rw (rw e at t)
+  module _ (left : Bool) {is_event vacating : Bool} (event_is : is_event ≡ event_head h) (vacating_is : vacating ≡ vacates h) where
+    pub no-warnings : (is_event || vacating) ≡ true → 0 ≡ warnings_on after h left
+    unfolding warnings_on pick
+    no-warnings t = rw (rw (event_is, vacating_is) at t)
 
-  pub all-warnings : (left : Bool) {v : Bool} {x y z : ℕ} → v ≡ vacates h → (event_head h || v) ≡ false
-      → x ≡ worth 1 (warns_overlap after h) → y ≡ worth 8 (eqb h.record_type.0 1 && left) → z ≡ minute_warnings after h
-      → x + z + y ≡ warnings_on after h left
-  unfolding warnings_on pick
-  all-warnings left e t a b c = rw (a, b, c, rw e at t)
+    pub all-warnings : {x y z : ℕ} → (is_event || vacating) ≡ false
+        → x ≡ worth 1 (warns_overlap after h) → y ≡ worth 8 (eqb h.record_type.0 1 && left) → z ≡ minute_warnings after h
+        → x + z + y ≡ warnings_on after h left
+    unfolding warnings_on pick
+    all-warnings t a b c = rw (a, b, c, rw (event_is, vacating_is) at t)
 
 -- they are the warnings of the paper
 pub warnings-same : (b s : List ℕ) → warnings_on (block_after b s) (head_of s) (some_slot (leaves b s)) ≡ warnings b s

@@ -107,6 +107,7 @@ fn may_move(h: Head, held: Record) -> bool
 }
 
 // Questions 10 to 14.
+#[tactic(auto, unfolding(crate::specs::Decided::holder_asked))]
 fn ask_holder(last: Minute, h: Head, is_held: bool, held: Record) -> Result<(), Refusal>
     ensures { result ≡ holder_asked last h is_held held }
 {
@@ -123,7 +124,8 @@ fn begins(h: Head, held: Record) -> bool
 {
     (h.start_mark == Mark::EXECUTED)
         & ((h.record_type == RecordType::STOP) | (h.record_type == RecordType::OFF_GRID))
-        & ((h.operation == Operation::CREATE) | ((h.operation == Operation::CHANGE) & !(held.start_mark == Mark::EXECUTED)))
+        & ((h.operation == Operation::CREATE)
+            | ((h.operation == Operation::CHANGE) & !(held.start_mark == Mark::EXECUTED)))
 }
 
 fn changes_state(kind: Kind, h: Head, held: Record) -> bool
@@ -136,7 +138,9 @@ fn must_leave(h: Head, changes: bool, x: Record) -> bool
     ensures { result ≡ must_leave h changes x }
 {
     let r = records::record_by(h);
-    (!(h.operation == Operation::WITHDRAW) & records::records_clash(r, x) & records::record_closes(r, x))
+    (!(h.operation == Operation::WITHDRAW)
+        & records::records_clash(r, x)
+        & records::record_closes(r, x))
         | (changes & records::holds_state(x))
 }
 
@@ -202,6 +206,7 @@ fn free_slot(slots: [SlotAnswers; 8]) -> Option<u8>
     Some(i as u8)
 }
 
+#[tactic(auto, unfolding(fields::specs::Lists::pick))]
 fn has_transition(row: Row, h: Head) -> bool
     ensures { result ≡ has_transition row h }
 {
@@ -237,6 +242,7 @@ fn minutes_fit(
 }
 
 // The slot that an accepted report writes.
+#[tactic(auto, unfolding(crate::specs::Decided::written_by, fields::specs::Lists::pick))]
 fn slot_written(h: Head, slot: Option<u8>, free: Option<u8>) -> Option<u8>
     ensures { result ≡ written_by h slot free }
 {
@@ -289,6 +295,7 @@ fn ask_minutes(
 }
 
 // Questions 15 to 19.
+#[tactic(auto, unfolding(crate::specs::Decided::limits_asked))]
 fn ask_limits(
     b: &[u8],
     report: &[u8],
@@ -336,12 +343,13 @@ pub fn decide(b: &[u8], report: &[u8]) -> Result<Decision, Refusal>
 {
     let h = report::head_of(report);
     let unit = block::unit_head(b);
-    let deratings = validation::validate(unit, h, report)?;
+    let validated = validation::validate(unit, h, report);
+    validated.passed?;
     let slot = find_holder(b, records::record_by(h));
     let held = held_record(b, slot);
     ask_holder(unit.last_stamp, h, slot.is_some(), held)?;
     let changes = changes_state(unit.kind, h, held);
-    decide_limits(b, report, h, unit, slot, changes, deratings)
+    decide_limits(b, report, h, unit, slot, changes, validated.deratings)
 }
 
 fn one_stop_one_levelled(x: Record, y: Record) -> bool
@@ -349,7 +357,8 @@ fn one_stop_one_levelled(x: Record, y: Record) -> bool
 {
     let x_levelled = records::is_levelled(x.record_type);
     let y_levelled = records::is_levelled(y.record_type);
-    (x_levelled & (y.record_type == RecordType::STOP)) | ((x.record_type == RecordType::STOP) & y_levelled)
+    (x_levelled & (y.record_type == RecordType::STOP))
+        | ((x.record_type == RecordType::STOP) & y_levelled)
 }
 
 // Warning 1, of slot i.

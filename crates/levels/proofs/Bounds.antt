@@ -187,7 +187,7 @@ module _ (range : PowerRange) (ep en : Option Extremes) (p n : Option Kilowatt) 
     fits-alone None t = refl
     fits-alone (Some f) t = fits-between f.0 f.0 f.0 (omega arith) (omega arith) t t
 
-    extremes-levels : (e : Extremes) (f : Option Kilowatt) → Covers e f → extremes_fit (record { kind = kind; range = range }) e (highest_of ep) (highest_of en) ≡ true
+    extremes-levels : (e : Extremes) (f : Option Kilowatt) → Covers e f → extremes_fit (record { kind = record { 0 = kind }; range = range }) e (highest_of ep) (highest_of en) ≡ true
         → levels_fit kind range (record { forced = f; positive = p; negative = n }) ≡ true
     unfolding levels_fit
     extremes-levels e None c t = refl

@@ -22,7 +22,7 @@ pairs_within z u = all (λ (p : Pair). power_within u p.power.0) (series (pair_a
 
 -- forced work of a direction
 abbrev pub is_forced : Record → ℕ → Bool
-is_forced r direction = eqb r.record_type forced_work && eqb r.direction direction
+is_forced r direction = eqb r.record_type.0 forced_work && eqb r.direction.0 direction
 
 unfoldable pub slot_within : List ℕ → ℕ → Bool → ℕ → Limits → Bool
 slot_within b i counted direction u = not (counted && is_forced (record_at b i) direction) || pairs_within (slot_at b i) u

@@ -744,8 +744,10 @@ fn types_meet(counted: CountedTypes, with_report: bool, record_type: RecordType)
     ensures { result ≡ types_meet counted with_report record_type.0 }
 {
     let forced = counted.forced | (with_report & (record_type == RecordType::FORCED_WORK));
-    let positive = counted.positive | (with_report & (record_type == RecordType::POSITIVE_DERATING));
-    let negative = counted.negative | (with_report & (record_type == RecordType::NEGATIVE_DERATING));
+    let positive = counted.positive
+        | (with_report & (record_type == RecordType::POSITIVE_DERATING));
+    let negative = counted.negative
+        | (with_report & (record_type == RecordType::NEGATIVE_DERATING));
     forced & (positive | negative)
 }
 

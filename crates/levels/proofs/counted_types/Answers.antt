@@ -8,7 +8,7 @@ pub loop-i-init : goal.loop-i-init
 loop-i-init c = (tested-none, tested-none, tested-none)
 
 pub loop-i-preserved : goal.loop-i-preserved
-loop-i-preserved c = (
+loop-i-preserved c = rw (c.eq.ensures, c.eq-in-loop-i.ensures, c.eq-in-loop-i-2.ensures) (
   type-tested _ c.args.counted forced_work c.loop-i.invariant.0 (omega arith) c.slot_at.ensures c.record_in-r.ensures,
   type-tested _ c.args.counted positive_derating c.loop-i.invariant.1 (omega arith) c.slot_at.ensures c.record_in-r.ensures,
   type-tested _ c.args.counted negative_derating c.loop-i.invariant.2 (omega arith) c.slot_at.ensures c.record_in-r.ensures,
