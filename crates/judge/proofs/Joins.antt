@@ -1,6 +1,7 @@
 -- What the code joins is what the definitions join: each law takes what the callees ensure. Assumes nothing.
 use Prim.Native.Nat.{ℕ, zero, suc, ◌+◌, ◌-◌, ◌≤◌, ◌<◌}
-use Rattle.std.specs.Prelude.{Option, Some, None, map}
+use Rattle.std.specs.Prelude.{Option, Some, None, map, find}
+use Rattle.std.specs.List.{range_with_len}
 use Rattle.std.specs.Array.{IsFromFnResult, IsFromFnResultFrom, IsMapOf}
 use Rattle.std.specs.Fn.{Mut, Called}
 use Rattle.std.proofs.lemmas.List.{same_lists, length-map, get_or-map}
@@ -54,37 +55,21 @@ module _ (b : List ℕ) (i : ℕ) {z : List ℕ} {u : Bool} (read : z ≡ slot_a
   unfolding answers_at live
   used-answers h slot changes n e a = a ∙ rw (e, read, is-used n)
 
--- a search over the slots that is left at the first hit: none before slot i
-pub record Sought (test : ℕ → Bool) (i : ℕ) : Type 0 where
-  pub most : i ≤ slot_count
-  pub so_far : seek test 0 slot_count ≡ seek test i (slot_count - i)
+-- what `find` gives over the slots' numbers, and `any`
+found-is : (test : ℕ → Bool) (i n : ℕ) → find test (range_with_len i n) ≡ pick (ltb (seek test i n) (i + n)) (Some (seek test i n)) None
+unfolding seek pick
+found-is test i zero = rw (le-ltb (i + 0) i (omega arith))
+found-is test i (suc n) = by-case (test i) refl where
+  by-case : (t : Bool) → test i ≡ t
+      → find test (range_with_len i (suc n)) ≡ pick (ltb (seek test i (suc n)) (i + suc n)) (Some (seek test i (suc n))) None
+  by-case true e = rw (e, lt-ltb i (i + suc n) (omega arith))
+  by-case false e =
+      let k : i + suc n ≡ i + 1 + n = omega arith in
+      rw (e, k) (found-is test (i + 1) n)
 
-pub sought-none : (test : ℕ → Bool) → Sought test 0
-sought-none test = record { most = omega arith; so_far = refl }
-
-module _ {test : ℕ → Bool} {i : ℕ} (k : Sought test i) where
-  pub sought-hit : i < slot_count → test i ≡ true → i ≡ seek test 0 slot_count
-  sought-hit l e = sym (k.so_far ∙ seek_hit test i slot_count l e)
-
-  pub sought-miss : i < slot_count → test i ≡ false → Sought test (i + 1)
-  sought-miss l e = record { most = omega arith; so_far = k.so_far ∙ seek-miss test i slot_count l e }
-
-  pub sought-all : slot_count ≤ i → slot_count ≡ seek test 0 slot_count
-  sought-all l =
-      let most = k.most in
-      sym (k.so_far ∙ seek-end test i slot_count (omega arith))
-
-abbrev pub is_holder : List ℕ → Record → ℕ → Bool
-is_holder b r i = live b r.stamp.0 i && same_identifier r (record_at b i)
-
-pub found-holder : (b : List ℕ) (r : Record) {i : ℕ} → i < slot_count → i ≡ seek (is_holder b r) 0 slot_count
-    → Some i ≡ slot_numbered (holder_of b r)
-unfolding holder_of pick
-found-holder b r {i} h e = rw (← e, lt-ltb i slot_count h)
-
-pub no-holder : (b : List ℕ) (r : Record) → slot_count ≡ seek (is_holder b r) 0 slot_count → None ≡ slot_numbered (holder_of b r)
-unfolding holder_of pick
-no-holder b r e = rw (← e)
+pub found-slot : (test : ℕ → Bool) {r : Option ℕ} → r ≡ find test (range_with_len 0 slot_count)
+    → r ≡ slot_numbered (seek test 0 slot_count)
+found-slot test e = e ∙ found-is test 0 slot_count
 
 -- what a call for each number makes, and a call for each element, where calls leave the closure as it is
 module _ {F B : Type 0} {g : Mut F (ℕ × Unit {0}) B} {f : F} (ys : List B) (k : ℕ → B) (n : ℕ)

@@ -12,9 +12,9 @@ ghost use Rattle.rules.specs.Minutes.{question17};
 ghost use Rattle.rules.specs.After.{one_stop_one_levelled, warns_overlap, worth};
 ghost use Rattle.rules.specs.Judge.{must};
 ghost use Rattle.levels.specs.Counted.{swept_records};
-ghost use Rattle.judge.specs.Survey.{holder_of, slot_answers as answers_of, answers_at, survey_of, free_among};
+ghost use Rattle.judge.specs.Survey.{holder_of, slot_answers as answers_of, used_record, answers_at, survey_of, free_among};
 ghost use Rattle.judge.specs.Decided.{written_by, holder_asked, limits_asked, limits_decided, decision_of};
-ghost use Rattle.judge.specs.Warned.{overlap_at, minute_warnings, warnings_on};
+ghost use Rattle.judge.specs.Warned.{overlaps, overlap_at, minute_warnings, warnings_on};
 
 use block::SLOT_COUNT;
 use levels::{Limits, Swept};
@@ -34,6 +34,15 @@ pub struct SlotAnswers {
     pub cleared: bool,
 }
 
+// Of a slot that no record is in.
+const FREE: SlotAnswers = SlotAnswers {
+    other: false,
+    closed: true,
+    leaves: false,
+    stays: false,
+    cleared: false,
+};
+
 // What an accepted report does: the slots that are cleared, the slot that is written, whether the state changes, and whether some
 // record leaves.
 #[derive(Clone, Copy)]
@@ -50,28 +59,28 @@ fn record_at(b: &[u8], i: u8) -> Record
     block::record_in(block::slot_at(b, i))
 }
 
+// The record in slot i, if the slot is used.
+#[tactic(auto, unfolding(crate::specs::Survey::used_record, fields::specs::Lists::pick))]
+fn used_record(b: &[u8], i: u8) -> Option<Record>
+    ensures { result ≡ used_record b.now i }
+{
+    let z = block::slot_at(b, i);
+    block::is_used(z).then(|| block::record_in(z))
+}
+
 // Slot i is live and has the record's identifier.
+#[tactic(auto, unfolding(crate::specs::Survey::used_record, rules::specs::Questions::live, fields::specs::Lists::pick))]
 fn holds(b: &[u8], r: Record, i: u8) -> bool
     ensures { result ≡ (live b.now r.stamp.0 i && same_identifier r (record_at b.now i)) }
 {
-    let z = block::slot_at(b, i);
-    if !block::is_used(z) {
-        return false;
-    }
-    let x = block::record_in(z);
-    (r.stamp.0 < x.period.end.0) & records::same_identifier(r, x)
+    used_record(b, i).is_some_and(|x| (r.stamp < x.period.end) & records::same_identifier(r, x))
 }
 
 // The live slot that has the record's identifier.
 fn find_holder(b: &[u8], r: Record) -> Option<u8>
     ensures { result ≡ slot_numbered (holder_of b.now r) }
 {
-    for i in 0..SLOT_COUNT {
-        if holds(b, r, i) {
-            return Some(i);
-        }
-    }
-    None
+    (0..SLOT_COUNT).find(|i| holds(b, r, *i))
 }
 
 // The record in a slot; where there is none, what is read past the last slot, which is all zeros.
@@ -100,7 +109,7 @@ fn may_move(h: Head, held: Record) -> bool
         | records::choose(
             held.start_mark == Mark::EXECUTED,
             (h.operation == Operation::CHANGE)
-                & (h.period.start.0 == held.period.start.0)
+                & (h.period.start == held.period.start)
                 & (h.start_mark == Mark::EXECUTED),
             !records::ends_early(h),
         )
@@ -167,21 +176,14 @@ fn slot_answers(
     }
 }
 
+#[tactic(auto, unfolding(crate::specs::Survey::used_record, crate::specs::Survey::answers_at, crate::specs::Survey::slot_answers, rules::specs::Questions::live, fields::specs::Lists::pick))]
 fn answers_at(b: &[u8], h: Head, slot: Option<u8>, changes: bool, i: u8) -> SlotAnswers
     ensures { result ≡ answers_at b.now h slot changes i }
 {
-    let z = block::slot_at(b, i);
-    if !block::is_used(z) {
-        return SlotAnswers {
-            other: false,
-            closed: true,
-            leaves: false,
-            stays: false,
-            cleared: false,
-        };
+    match used_record(b, i) {
+        Some(x) => slot_answers(h, slot, changes, h.stamp < x.period.end, x, i),
+        None => FREE,
     }
-    let x = block::record_in(z);
-    slot_answers(h, slot, changes, h.stamp.0 < x.period.end.0, x, i)
 }
 
 fn survey_slots(b: &[u8], h: Head, slot: Option<u8>, changes: bool) -> [SlotAnswers; 8]
@@ -191,17 +193,10 @@ fn survey_slots(b: &[u8], h: Head, slot: Option<u8>, changes: bool) -> [SlotAnsw
 }
 
 // The lowest slot that does not keep its record.
-fn lowest_free(slots: [SlotAnswers; 8]) -> Option<usize>
-    ensures { result ≡ free_among slots }
-{
-    slots.iter().position(|a| !a.stays)
-}
-
-// The same, as slots are numbered.
 fn free_slot(slots: [SlotAnswers; 8]) -> Option<u8>
     ensures { result ≡ free_among slots }
 {
-    let i = lowest_free(slots)?;
+    let i = slots.iter().position(|a| !a.stays)?;
     Some(i as u8)
 }
 
@@ -358,39 +353,34 @@ fn one_stop_one_levelled(x: Record, y: Record) -> bool
         | ((x.record_type == RecordType::STOP) & y_levelled)
 }
 
-// Warning 1, of slot i.
-fn overlaps_at(after: &[u8], r: Record, i: u8) -> bool
-    ensures { result ≡ overlap_at after.now r i }
+// Warning 1, of a record in a slot.
+fn overlaps(r: Record, x: Record) -> bool
+    ensures { result ≡ overlaps r x }
 {
-    let z = block::slot_at(after, i);
-    if !block::is_used(z) {
-        return false;
-    }
-    let x = block::record_in(z);
     one_stop_one_levelled(r, x)
         & records::directions_meet(r.direction, x.direction)
         & quantities::overlapping(r.period, x.period)
+}
+
+// Warning 1, of slot i.
+#[tactic(auto, unfolding(crate::specs::Survey::used_record, fields::specs::Lists::pick))]
+fn overlaps_at(after: &[u8], r: Record, i: u8) -> bool
+    ensures { result ≡ overlap_at after.now r i }
+{
+    used_record(after, i).is_some_and(|x| overlaps(r, x))
 }
 
 fn warns_overlap(after: &[u8], h: Head) -> bool
     ensures { result ≡ warns_overlap after.now h }
 {
     let r = records::record_by(h);
-    let mut none = true;
-    for i in 0..SLOT_COUNT {
-        none = none & !overlaps_at(after, r, i);
-    }
-    !none
+    (0..SLOT_COUNT).any(|i| overlaps_at(after, r, i))
 }
 
 fn used_slots(b: &[u8]) -> [bool; 8]
     ensures { result ≡ series (λ i. used (slot_at b.now i)) 0 slot_count }
 {
-    let mut flags = [false; 8];
-    for i in 0..SLOT_COUNT {
-        flags[i as usize] = block::is_used(block::slot_at(b, i));
-    }
-    flags
+    std::array::from_fn(|i: usize| block::is_used(block::slot_at(b, i as u8)))
 }
 
 fn worth_of(n: u8, t: bool) -> u8
