@@ -28,106 +28,31 @@ use Rattle.rules.specs.After.{rewrites, slot_written, cleared, some_slot}
 use Rattle.rules.specs.Judge.{skips, asked, must, no_to, part_beside, validation_number, held_number, limit_number, refusal_number}
 use Rattle.rules.proofs.Slots.{numbered}
 use Rattle.levels.specs.Counted.{report_record, swept_records}
-use Rattle.validation.proofs.Joins.{passed-with, refused-with}
+use Rattle.validation.proofs.InOrder.{then_assoc, link, stage}
+use Rattle.validation.specs.declared.Validated.{Validated}
+use Rattle.validation.specs.FirstNo.{◌then◌, outcome}
 use Rattle.validation.specs.Parts.{validated_of}
 use Rattle.judge.specs.declared.SlotAnswers.{SlotAnswers}
 use Rattle.judge.specs.Survey.{holder_of, slot_answers, answers_at, survey_of, free_among}
-use Rattle.judge.specs.Decided.{◌then◌, written_by, holder_asked, limits_asked, limits_by, limits_decided, surveyed_decision, accepted_decision, decision_of}
+use Rattle.judge.specs.Decided.{written_by, holder_asked, limits_asked, limits_by, limits_decided, surveyed_decision, accepted_decision, decision_of}
 use Rattle.judge.proofs.Joins.{records-same}
 
--- what a number hands on: at 0 the value, else the refusal
-unfoldable outcome : {A : Type 0} → ℕ → A → Result A Refusal
-outcome n d = pick (eqb n 0) (Ok d) (Err (no_to n))
+-- questions 10 to 14, and 15 to 19, asked by number and as code asks them
+module _ (h : Head) (ps : List Part) {A : Type 0} (value : A) where
+  held-in-order : (last : Minute) (slot : ℕ) (held : Record) (next : ℕ) → outcome h ps (held_number last h slot held next) value
+      ≡ (holder_asked last h (ltb slot slot_count) held then outcome h ps next value)
+  unfolding held_number holder_asked
+  held-in-order last slot held next =
+      link h ps value 9 _ _ refl (link h ps value 10 _ _ refl (link h ps value 11 _ _ refl (link h ps value 12 _ _ refl
+      (link h ps value 13 _ _ refl refl))))
+      ∙ sym (simp then_assoc)
 
-outcome-passed : {A : Type 0} (n : ℕ) (d : A) {y : A} → outcome n d ≡ Ok y → n ≡ 0
-unfolding outcome pick
-outcome-passed zero d e = refl
-outcome-passed (suc n) d e = grind arith
-
-outcome-stopped : {A : Type 0} (n : ℕ) (d : A) {x : Refusal} → outcome n d ≡ Err x → (n ≡ 0 → ⊥) × (x ≡ no_to n)
-unfolding outcome pick
-outcome-stopped zero d e = grind arith
-outcome-stopped (suc n) d e = (λ q. omega arith, grind arith)
-
--- a question asked by number, and as code asks it
-asked-then : {A : Type 0} (h : Head) (n : ℕ) (yes-to : Bool) (next : ℕ) (d : A)
-    → outcome (asked h (suc n) yes-to next) d ≡ (must h (suc n) yes-to then outcome next d)
-unfolding outcome pick ◌then◌
-asked-then h n yes-to next d = by-case (skips h (suc n) || yes-to) refl where
-  by-case : (t : Bool) → (skips h (suc n) || yes-to) ≡ t
-      → outcome (asked h (suc n) yes-to next) d ≡ (must h (suc n) yes-to then outcome next d)
-  by-case true e = rw e
-  by-case false e = rw (e, ne_eqb (suc n) 0 (λ q. omega arith))
-
--- of the last question
-asked-last : (h : Head) (n : ℕ) (yes-to : Bool) → outcome (asked h (suc n) yes-to 0) tt ≡ must h (suc n) yes-to
-unfolding outcome pick
-asked-last h n yes-to = by-case (skips h (suc n) || yes-to) refl where
-  by-case : (t : Bool) → (skips h (suc n) || yes-to) ≡ t → outcome (asked h (suc n) yes-to 0) tt ≡ must h (suc n) yes-to
-  by-case true e = rw e
-  by-case false e = rw (e, ne_eqb (suc n) 0 (λ q. omega arith))
-
-module _ (h : Head) (n : ℕ) (yes-to : Bool) (next : ℕ) {r : Result ⊤ Refusal} (e : outcome next tt ≡ r) where
-  link : outcome (asked h (suc n) yes-to next) tt ≡ (must h (suc n) yes-to then r)
-  link = asked-then h n yes-to next tt ∙ ap (λ (x : Result ⊤ Refusal). must h (suc n) yes-to then x) e
-
-holder-by : (last : Minute) (h : Head) (slot : ℕ) (held : Record)
-    → outcome (held_number last h slot held 0) tt ≡ holder_asked last h (ltb slot slot_count) held
-unfolding held_number holder_asked
-holder-by last h slot held = link h 9 _ _ (link h 10 _ _ (link h 11 _ _ (link h 12 _ _ (asked-last h 13 _))))
-
-limits-chain : (h : Head) (q15 q16 q17 q18 q19 : Bool) → outcome (limit_number h q15 q16 q17 q18 q19 0) tt
-    ≡ (must h 15 q15 then must h 16 q16 then must h 17 q17 then must h 18 q18 then must h 19 q19)
-unfolding limit_number
-limits-chain h q15 q16 q17 q18 q19 = link h 14 _ _ (link h 15 _ _ (link h 16 _ _ (link h 17 _ _ (asked-last h 18 _))))
-
-then-outcome : {A : Type 0} (n : ℕ) (d : A) → outcome n d ≡ (outcome n tt then Ok d)
-unfolding outcome pick ◌then◌
-then-outcome zero d = refl
-then-outcome (suc n) d = rw (ne_eqb (suc n) 0 (λ q. omega arith))
-
--- a stage that is passed leads on, one that is not is the answer
-step : (n : ℕ) (q : Bool) (next y : ℕ) {x : ℕ} → x ≡ pick (eqb y 0) next y
-    → pick q x (suc n) ≡ pick (eqb (pick q y (suc n)) 0) next (pick q y (suc n))
-unfolding pick
-step n true next y e = e
-step n false next y e = rw (ne_eqb (suc n) 0 (λ q. omega arith))
-
-stop-here : (next : ℕ) → next ≡ pick (eqb 0 0) next 0
-unfolding pick
-stop-here next = refl
-
-validation-next : (kind : ℕ) (h : Head) (ps : List Part) (next : ℕ)
-    → validation_number kind h ps next ≡ pick (eqb (validation_number kind h ps 0) 0) next (validation_number kind h ps 0)
-unfolding validation_number
-validation-next kind h ps next =
-    step 3 _ next _ (step 4 _ next _ (step 5 _ next _ (step 6 _ next _ (step 7 _ next _ (step 8 _ next _ (stop-here next))))))
-
-held_next : (last : Minute) (h : Head) (slot : ℕ) (held : Record) (next : ℕ)
-    → held_number last h slot held next ≡ pick (eqb (held_number last h slot held 0) 0) next (held_number last h slot held 0)
-unfolding held_number
-held_next last h slot held next = step 9 _ next _ (step 10 _ next _ (step 11 _ next _ (step 12 _ next _ (step 13 _ next _
-    (stop-here next)))))
-
--- no question but 8 names a part
-not-8 : (q : Bool) (next n : ℕ) → eqb next 8 ≡ false → eqb n 8 ≡ false → eqb (pick q next n) 8 ≡ false
-unfolding pick
-not-8 true next n e f = e
-not-8 false next n e f = f
-
-held-names-none : (last : Minute) (h : Head) (slot : ℕ) (held : Record) → eqb (held_number last h slot held 0) 8 ≡ false
-unfolding held_number
-held-names-none last h slot held =
-    not-8 _ _ 10 (not-8 _ _ 11 (not-8 _ _ 12 (not-8 _ _ 13 (not-8 _ 0 14 refl refl) refl) refl) refl) refl
-
-limits-name-none : (h : Head) (q15 q16 q17 q18 q19 : Bool) → eqb (limit_number h q15 q16 q17 q18 q19 0) 8 ≡ false
-unfolding limit_number
-limits-name-none h q15 q16 q17 q18 q19 =
-    not-8 _ _ 15 (not-8 _ _ 16 (not-8 _ _ 17 (not-8 _ _ 18 (not-8 _ 0 19 refl refl) refl) refl) refl) refl
-
-outcome-no : {A : Type 0} (n : ℕ) (d : A) → (n ≡ 0 → ⊥) → Err (no_to n) ≡ outcome n d
-unfolding outcome pick
-outcome-no n d ne = rw (ne_eqb n 0 ne)
+  limits-in-order : (q15 q16 q17 q18 q19 : Bool) → outcome h ps (limit_number h q15 q16 q17 q18 q19 0) value
+      ≡ (must h 15 q15 then must h 16 q16 then must h 17 q17 then must h 18 q18 then must h 19 q19 then Ok value)
+  unfolding limit_number outcome pick
+  limits-in-order q15 q16 q17 q18 q19 =
+      link h ps value 14 _ _ refl (link h ps value 15 _ _ refl (link h ps value 16 _ _ refl (link h ps value 17 _ _ refl
+      (link h ps value 18 _ _ refl refl))))
 
 -- the slots of the block and the report
 map-series : {A B : Type 0} (f : A → B) (g : ℕ → A) (i n : ℕ) → map f (series g i n) ≡ series (λ j. f (g j)) i n
@@ -249,92 +174,30 @@ module _ (b s : List ℕ) where
       (question17 (unit_head b).kind.0 (unit_head b).powers (reported_records b s) (head_of s))
       (question18 (changes_state b s) (unit_head b).row (head_of s)) (question19 (head_of s) (free_slot b s)) 0
 
-  abbrev validation : ℕ
-  validation = validation_number (unit_head b).kind.0 (head_of s) (parts_of s) 0
-
-  abbrev held : ℕ
-  held = held_number (unit_head b).last_stamp (head_of s) (holder b s) (held_record b s) 0
-
-  number_by : refusal_number b s ≡ pick (eqb validation 0) (pick (eqb held 0) limits held) validation
-  unfolding refusal_number
-  number_by =
-      validation-next (unit_head b).kind.0 (head_of s) (parts_of s) _
-      ∙ ap (λ (n : ℕ). pick (eqb validation 0) n validation)
-      (held_next (unit_head b).last_stamp (head_of s) (holder b s) (held_record b s) _)
-
-  refuses-with : {n : ℕ} → refusal_number b s ≡ n → (n ≡ 0 → ⊥)
-      → Err (record { number = n; part = part_beside n (head_of s) (parts_of s) }) ≡ decision_of b s
-  unfolding decision_of
-  refuses-with {n} e ne = rw (e, passed_over _ _ refl (ne_eqb n 0 ne))
-
-  -- a number beside which no part is named
-  decides-by : {n : ℕ} → refusal_number b s ≡ n → eqb n 8 ≡ false → outcome n (accepted_decision b s) ≡ decision_of b s
-  unfolding decision_of outcome
-  decides-by {n} e none =
-      let no_part : part_beside n (head_of s) (parts_of s) ≡ 0 = passed_over _ 0 refl none in
-      rw (e, no_part)
-
   abbrev deratings_fit : Bool
   deratings_fit = question16 (unit_head b).powers (head_of s) (parts_of s)
-
-  asked_is : limits_asked b s (head_of s) (unit_head b) (series answered 0 slot_count) (changes_state b s) deratings_fit ≡ outcome limits tt
-  unfolding limits_asked
-  asked_is = rw (closed-is, others_are, swept-is, free-is, there-is (free_slot b s)) (sym (limits-chain (head_of s) _ _ _ _ _))
 
   decided_is : surveyed_decision (head_of s) (slot_numbered (holder b s)) (changes_state b s) (series answered 0 slot_count)
       ≡ accepted_decision b s
   decided_is = rw (cleared_are, free-is, written_is, left_is)
 
   limits-are : limits_decided b s (head_of s) (unit_head b) (slot_numbered (holder b s)) (changes_state b s) deratings_fit
-      ≡ outcome limits (accepted_decision b s)
+      ≡ outcome (head_of s) (parts_of s) limits (accepted_decision b s)
+  unfolding limits_asked
   limits-are =
       ap (limits_by b s (head_of s) (unit_head b) (slot_numbered (holder b s)) (changes_state b s) deratings_fit) surveyed
-      ∙ rw (asked_is, decided_is) (sym (then-outcome limits _))
+      ∙ rw (decided_is, closed-is, others_are, swept-is, free-is, there-is (free_slot b s), limits-in-order (head_of s) (parts_of s) (accepted_decision b s)) (simp then_assoc)
 
-  -- what the code hands from one stage to the next
-  module _ {h : Head} (head : h ≡ head_of s) {unit : UnitHead} (read : unit ≡ unit_head b) {validated : Result Bool Refusal}
-      (asked-first : validated ≡ validated_of unit h (parts_of s)) where
-    pub stops-at-validation : {r : Refusal} → validated ≡ Err r → Err r ≡ decision_of b s
-    stops-at-validation {r} e =
-        let told = refused-with unit h (parts_of s) (sym e ∙ asked-first) in
-        let first : r.number ≡ validation = told.0 ∙ rw (read, head) in
-        let named : r.part ≡ part_beside r.number (head_of s) (parts_of s) = told.1.1 ∙ rw head in
-        ap (λ (k : ℕ). Err (record { number = r.number; part = k })) named
-        ∙ refuses-with (number_by ∙ rw (← first, passed_over _ _ refl (ne_eqb r.number 0 told.1.0))) told.1.0
-
-    module _ {deratings : Bool} (passed : validated ≡ Ok deratings) {r x : Record} {slot : Option ℕ} {is_held : Bool} {asked-next : Result ⊤ Refusal}
-        (own : r ≡ record_by h) (found : slot ≡ slot_numbered (holder_of b r)) (there : x ≡ record_at b (unwrap_or slot slot_count))
-        (some : is_held ≡ is_some slot) (next : asked-next ≡ holder_asked unit.last_stamp h is_held x) where
-      first_passed : validation ≡ 0
-      first_passed = rw (read, head) at (passed-with unit h (parts_of s) (sym passed ∙ asked-first)).0
-
-      slot_is : slot ≡ slot_numbered (holder b s)
-      unfolding holder_of holder
-      slot_is = found ∙ rw (own, head)
-
-      held_is : x ≡ held_record b s
-      held_is = there ∙ rw (slot_is, number-back (holder b s) holder-most)
-
-      second : asked-next ≡ outcome held tt
-      second = next ∙ rw (some, slot_is, there-is (holder b s), held_is, read, head) (sym (holder-by _ _ (holder b s) _))
-
-      pub stops-at-holder : {refusal : Refusal} → asked-next ≡ Err refusal → Err refusal ≡ decision_of b s
-      unfolding pick
-      stops-at-holder {refusal} e =
-          let stopped = outcome-stopped held tt (sym second ∙ e) in
-          let number : refusal_number b s ≡ held =
-          number_by ∙ rw (eq-eqb validation 0 first_passed, ne_eqb held 0 stopped.0) in
-          ap (λ (x : Refusal). Err x) stopped.1 ∙ outcome-no held _ stopped.0
-          ∙ decides-by number (held-names-none (unit_head b).last_stamp (head_of s) (holder b s) (held_record b s))
-
-      pub decides : {y : ⊤} {changes : Bool} → asked-next ≡ Ok y → changes ≡ changes_by unit.kind.0 h x
-          → limits_decided b s h unit slot changes deratings ≡ decision_of b s
-      unfolding pick question16 changes_state
-      decides {y} {changes} e c =
-          let z : held ≡ 0 = outcome-passed held tt (sym second ∙ e) in
-          let state : changes ≡ changes_state b s = c ∙ rw (held_is, read, head) refl in
-          let sixteen : deratings ≡ deratings_fit =
-          (passed-with unit h (parts_of s) (sym passed ∙ asked-first)).1 ∙ rw (read, head) in
-          let number : refusal_number b s ≡ limits =
-          number_by ∙ rw (eq-eqb validation 0 first_passed, eq-eqb held 0 z) in
-          rw (state, sixteen, slot_is, read, head) (limits-are ∙ decides-by number (limits-name-none (head_of s) _ _ _ _ _))
+  -- the stages, of what the code hands from one to the next
+  pub decides : {h : Head} (head : h ≡ head_of s) {unit : UnitHead} (read : unit ≡ unit_head b) {v : Validated}
+      (first : v ≡ validated_of unit h (parts_of s)) {r x : Record} {slot : Option ℕ} {is_held : Bool} {next : Result ⊤ Refusal}
+      {changes : Bool} (own : r ≡ record_by h) (found : slot ≡ slot_numbered (holder_of b r))
+      (there : x ≡ record_at b (unwrap_or slot slot_count)) (some : is_held ≡ is_some slot)
+      (asked-next : next ≡ holder_asked unit.last_stamp h is_held x) (moves : changes ≡ changes_by unit.kind.0 h x)
+      → (v.passed then next then limits_decided b s h unit slot changes v.deratings) ≡ decision_of b s
+  unfolding decision_of refusal_number holder_of holder changes_state
+  decides {h} head {unit} read {v} first {r} {x} {slot} own found there some asked-next moves =
+      let slot_is : slot ≡ slot_numbered (holder b s) = found ∙ rw (own, head) in
+      let held_is : x ≡ held_record b s = there ∙ rw (slot_is, number-back (holder b s) holder-most) in
+      rw (moves, asked-next, some, held_is, slot_is, there-is (holder b s), first, read, head, limits-are)
+      (sym (stage (head_of s) (parts_of s) (unit_head b).kind.0 _ (accepted_decision b s) ∙ rw (held-in-order (head_of s) (parts_of s) (accepted_decision b s) (unit_head b).last_stamp (holder b s) (held_record b s) limits)))

@@ -16,6 +16,7 @@ use Rattle.rules.specs.Minutes.{question17}
 use Rattle.rules.specs.After.{rewrites, slot_written, cleared, some_slot}
 use Rattle.rules.specs.Judge.{must, part_beside, refusal_number}
 use Rattle.levels.specs.Counted.{swept_records}
+use Rattle.validation.specs.FirstNo.{◌then◌, outcome}
 use Rattle.judge.specs.declared.Decision.{Decision}
 use Rattle.judge.specs.declared.SlotAnswers.{SlotAnswers}
 use Rattle.judge.specs.Survey.{survey_of, free_among}
@@ -23,12 +24,6 @@ use Rattle.judge.specs.Survey.{survey_of, free_among}
 -- the slot that is written
 unfoldable pub written_by : Head → Option ℕ → Option ℕ → Option ℕ
 written_by h slot free = pick (creation_head h) free (pick (rewrites h) slot None)
-
-infixr 40 ◌then◌
--- after "yes" the next is asked
-unfoldable pub ◌then◌ : {A : Type 0} → Result ⊤ Refusal → Result A Refusal → Result A Refusal
-Ok _ then next = next
-Err refusal then next = Err refusal
 
 -- questions 10 to 14, of whether a live slot holds the identifier and of the record there
 unfoldable pub holder_asked : Minute → Head → Bool → Record → Result ⊤ Refusal
@@ -75,6 +70,4 @@ accepted_decision b s = record {
 
 -- of a report on its unit's block: the first "no", and beside 8 the part
 unfoldable pub decision_of : List ℕ → List ℕ → Result Decision Refusal
-decision_of b s =
-    pick (eqb (refusal_number b s) 0) (Ok (accepted_decision b s))
-    (Err (record { number = refusal_number b s; part = part_beside (refusal_number b s) (head_of s) (parts_of s) }))
+decision_of b s = outcome (head_of s) (parts_of s) (refusal_number b s) (accepted_decision b s)

@@ -116,6 +116,7 @@ fn may_move(h: Head, held: Record) -> bool
 }
 
 // Questions 10 to 14.
+#[tactic(auto, unfolding(crate::specs::Decided::holder_asked))]
 fn ask_holder(last: Minute, h: Head, is_held: bool, held: Record) -> Result<(), Refusal>
     ensures { result ≡ holder_asked last h is_held held }
 {
@@ -289,6 +290,7 @@ fn ask_minutes(
 }
 
 // Questions 15 to 19.
+#[tactic(auto, unfolding(crate::specs::Decided::limits_asked))]
 fn ask_limits(
     b: &[u8],
     report: &[u8],
@@ -336,12 +338,13 @@ pub fn decide(b: &[u8], report: &[u8]) -> Result<Decision, Refusal>
 {
     let h = report::head_of(report);
     let unit = block::unit_head(b);
-    let deratings = validation::validate(unit, h, report)?;
+    let validated = validation::validate(unit, h, report);
+    validated.passed?;
     let slot = find_holder(b, records::record_by(h));
     let held = held_record(b, slot);
     ask_holder(unit.last_stamp, h, slot.is_some(), held)?;
     let changes = changes_state(unit.kind, h, held);
-    decide_limits(b, report, h, unit, slot, changes, deratings)
+    decide_limits(b, report, h, unit, slot, changes, validated.deratings)
 }
 
 fn one_stop_one_levelled(x: Record, y: Record) -> bool

@@ -6,12 +6,12 @@ ghost use Rattle.report.specs.Report.{parts_of};
 ghost use Rattle.rules.specs.Codes.{between, stop, event, create, withdraw};
 ghost use Rattle.rules.specs.Records.{part_times, begun};
 ghost use Rattle.rules.specs.Questions.{record_by, quarter_hour, part_on_quarter, derating_fits, end_mark_in_range, early_end_times, question4, question6, question8};
-ghost use Rattle.validation.specs.Parts.{part_of_size, answers_of, cover_asked, validated_of};
+ghost use Rattle.validation.specs.Parts.{part_of_size, answers_of, head_on_quarters, cover_asked, validation_asked, validated_of};
 
 use quantities::{Kilowatt, Minute};
 use records::must;
 use report::{Broken, Head, Mark, Operation, Part, RecordType};
-use rules::{PowerRange, Refusal, UnitHead};
+use rules::{Kind, PowerRange, Refusal, UnitHead};
 
 // What is asked of each part: its times (question 4), its end on a quarter hour (7), its power (9), its derating (16).
 #[derive(Clone, Copy)]
@@ -19,6 +19,13 @@ pub struct PartAnswers {
     pub times: bool,
     pub on_quarters: bool,
     pub powers: bool,
+    pub deratings: bool,
+}
+
+// The first "no" of questions 4 to 9, if there is one, and what question 16 is answered.
+#[derive(Clone, Copy)]
+pub struct Validated {
+    pub passed: Result<(), Refusal>,
     pub deratings: bool,
 }
 
@@ -145,7 +152,7 @@ fn times_are_consistent(h: Head) -> bool
 
 // Question 7, but for the parts.
 fn head_is_on_quarters(h: Head) -> bool
-    ensures { result ≡ (quarter_hour h.period.end && (begun (record_by h) || quarter_hour h.period.start)) }
+    ensures { result ≡ head_on_quarters h }
 {
     let begun = h.start_mark == Mark::EXECUTED;
     is_quarter_hour(h.period.end) & (begun | is_quarter_hour(h.period.start))
@@ -174,20 +181,30 @@ fn must_cover(h: Head, report: &[u8]) -> Result<(), Refusal>
     }
 }
 
-// The first "no" of questions 4 to 9, or what question 16 is answered.
-pub fn validate(unit: UnitHead, h: Head, report: &[u8]) -> Result<bool, Refusal>
-    ensures { result ≡ validated_of unit h (parts_of report.now) }
+// Questions 4 to 9, in their order.
+#[tactic(auto, unfolding(crate::specs::Parts::validation_asked))]
+fn ask(kind: Kind, h: Head, report: &[u8], parts: PartAnswers) -> Result<(), Refusal>
+    ensures { result ≡ validation_asked kind.0 h (parts_of report.now) parts }
 {
-    let r = records::record_by(h);
-    let range = records::range_of(unit.powers, h.direction);
-    let parts = ask_parts(report, h.stamp, range, h.record_type);
     must(h, 4, head_passes(h) & parts.times)?;
-    must(h, 5, records::kind_allows(unit.kind, r))?;
+    must(h, 5, records::kind_allows(kind, records::record_by(h)))?;
     must(h, 6, times_are_consistent(h))?;
     let quarters = (h.record_type == RecordType::EVENT)
         | (head_is_on_quarters(h) & parts.on_quarters);
     must(h, 7, quarters)?;
     must_cover(h, report)?;
-    must(h, 9, parts.powers)?;
-    Ok(parts.deratings)
+    must(h, 9, parts.powers)
+}
+
+// Questions 4 to 9 and 16.
+#[tactic(auto, using(crate::proofs::InOrder::validated_in_order))]
+pub fn validate(unit: UnitHead, h: Head, report: &[u8]) -> Validated
+    ensures { result ≡ validated_of unit h (parts_of report.now) }
+{
+    let range = records::range_of(unit.powers, h.direction);
+    let parts = ask_parts(report, h.stamp, range, h.record_type);
+    Validated {
+        passed: ask(unit.kind, h, report, parts),
+        deratings: parts.deratings,
+    }
 }
