@@ -1,75 +1,65 @@
 -- What the code joins is what the definitions join: each law takes what the callees ensure. Assumes nothing.
-use Prim.Native.Nat.{ℕ, zero, suc, ◌+◌, ◌-◌, ◌≤◌, ◌<◌}
+use Prim.Native.Nat.{ℕ, zero, suc, ◌+◌, ◌≤◌, ◌<◌}
 use Rattle.std.specs.Prelude.{Option, Some, None, map, find}
-use Rattle.std.specs.List.{range_with_len}
+use Rattle.std.specs.List.{range_with_len, list_any}
+use Rattle.std.specs.Option.{option_map}
+use Rattle.rules.specs.After.{some_slot}
 use Rattle.std.specs.Array.{IsFromFnResult, IsFromFnResultFrom, IsMapOf}
 use Rattle.std.specs.Fn.{Mut, Called}
 use Rattle.std.proofs.lemmas.List.{same_lists, length-map, get_or-map}
-use borrow.Author.Tests.{lt-ltb, eqb-true, eqb-false}
+use borrow.Author.Tests.{lt-ltb, le-ltb, eqb-true, eqb-false}
 use mathlib.Core.Path.{◌≡◌, refl, ap, sym, subst, ◌∙◌}
-use mathlib.Core.Bool.{Bool, true, false, not, ◌&&◌}
+use mathlib.Core.Bool.{Bool, true, false, not, ◌&&◌, ◌||◌}
 use mathlib.Core.List.{List}
 use native.Mathlib.Omega.{arith}
 use native.Mathlib.Nat.{zero-add}
 use lib.ListN.{length, get_or}
 use lib.Dec.{ltb, eqb}
-use Rattle.fields.specs.Lists.{pick, series, seek}
-use Rattle.fields.proofs.Tests.{series-length, series-at, seek_hit, seek-miss, seek-end}
+use Rattle.fields.specs.Lists.{pick, all, series, seek}
+use Rattle.fields.proofs.Tests.{series-length, series-at}
 use Rattle.report.specs.declared.Head.{Head}
 use Rattle.rules.specs.declared.PowerRange.{PowerRange}
-use Rattle.rules.specs.declared.Record.{Record}
 use Rattle.rules.specs.declared.UnitHead.{UnitHead}
 use Rattle.rules.specs.Codes.{is_levelled}
 use Rattle.rules.specs.Minutes.{FullRecord, records_among, question17, levels_fit, levels_every}
-use Rattle.rules.specs.Records.{same_identifier}
-use Rattle.rules.specs.Block.{slot_count, slot_numbered, slot_at, used, record_in}
-use Rattle.rules.specs.Questions.{record_at, live, range_of}
+use Rattle.rules.specs.Block.{slot_count, slot_numbered}
+use Rattle.rules.specs.Questions.{range_of}
 use Rattle.rules.specs.Judge.{skips, must}
 use Rattle.judge.specs.declared.SlotAnswers.{SlotAnswers}
-use Rattle.judge.specs.Survey.{holder_of, slot_answers, answers_at}
-
--- a slot that was read: free, or with a record
-module _ (b : List ℕ) (i : ℕ) {z : List ℕ} {u : Bool} (read : z ≡ slot_at b i) (asked : u ≡ used z) where
-  not-used : u ≡ false → used (slot_at b i) ≡ false
-  not-used n = rw (← read) (sym asked ∙ n)
-
-  is-used : u ≡ true → used (slot_at b i) ≡ true
-  is-used n = rw (← read) (sym asked ∙ n)
-
-  pub none-held : (r : Record) → u ≡ false → false ≡ (live b r.stamp.0 i && same_identifier r (record_at b i))
-  unfolding live
-  none-held r n = rw (not-used n)
-
-  pub some-held : (r : Record) {x : Record} {t : Bool} → u ≡ true → x ≡ record_in z → t ≡ same_identifier r x
-      → (ltb r.stamp.0 x.period.end.0 && t) ≡ (live b r.stamp.0 i && same_identifier r (record_at b i))
-  unfolding live
-  some-held r n e q = rw (q, e, read, is-used n)
-
-  pub free-answers : (h : Head) (slot : Option ℕ) (changes : Bool) → u ≡ false
-      → record { other = false; closed = true; leaves = false; stays = false; cleared = false } ≡ answers_at b h slot changes i
-  unfolding answers_at slot_answers live
-  free-answers h slot changes n = rw (not-used n)
-
-  pub used-answers : (h : Head) (slot : Option ℕ) (changes : Bool) {x : Record} {a : SlotAnswers} → u ≡ true → x ≡ record_in z
-      → a ≡ slot_answers h slot changes true (ltb h.stamp.0 x.period.end.0) x i → a ≡ answers_at b h slot changes i
-  unfolding answers_at live
-  used-answers h slot changes n e a = a ∙ rw (e, read, is-used n)
 
 -- what `find` gives over the slots' numbers, and `any`
 found-is : (test : ℕ → Bool) (i n : ℕ) → find test (range_with_len i n) ≡ pick (ltb (seek test i n) (i + n)) (Some (seek test i n)) None
 unfolding seek pick
-found-is test i zero = rw (le-ltb (i + 0) i (omega arith))
-found-is test i (suc n) = by-case (test i) refl where
+found-is test i zero = rw (le-ltb i (i + 0) (omega arith))
+found-is test i (suc n) = by-case (test i) refl (found-is test (i + 1) n) where
   by-case : (t : Bool) → test i ≡ t
+      → find test (range_with_len (i + 1) n) ≡ pick (ltb (seek test (i + 1) n) (i + 1 + n)) (Some (seek test (i + 1) n)) None
       → find test (range_with_len i (suc n)) ≡ pick (ltb (seek test i (suc n)) (i + suc n)) (Some (seek test i (suc n))) None
-  by-case true e = rw (e, lt-ltb i (i + suc n) (omega arith))
-  by-case false e =
+  by-case true e rest = rw (e, lt-ltb i (i + suc n) (omega arith))
+  by-case false e rest =
       let k : i + suc n ≡ i + 1 + n = omega arith in
-      rw (e, k) (found-is test (i + 1) n)
+      rw (e, k) rest
 
-pub found-slot : (test : ℕ → Bool) {r : Option ℕ} → r ≡ find test (range_with_len 0 slot_count)
+as-is : {A : Type 0} (r : Option A) → r ≡ option_map (λ x. x) r
+as-is None = refl
+as-is (Some x) = refl
+
+pub found-slot : (test : ℕ → Bool) {r : Option ℕ} → option_map (λ x. x) r ≡ find test (range_with_len 0 slot_count)
     → r ≡ slot_numbered (seek test 0 slot_count)
-found-slot test e = e ∙ found-is test 0 slot_count
+found-slot test {r} e = as-is r ∙ e ∙ found-is test 0 slot_count
+
+pub any-passes : {A : Type 0} (p : A → Bool) (g : ℕ → A) (i n : ℕ)
+    → list_any p (series g i n) ≡ not (all (λ j. not (p (g j))) (series (λ j. j) i n))
+unfolding series all
+any-passes p g i zero = refl
+any-passes p g i (suc n) = rw (any-passes p g (i + 1) n) (either (p (g i)) (all (λ j. not (p (g j))) (series (λ j. j) (i + 1) n))) where
+  either : (a b : Bool) → (a || not b) ≡ not (not a && b)
+  either true b = refl
+  either false b = refl
+
+pub some-slot : (test : ℕ → Bool) → list_any test (range_with_len 0 slot_count) ≡ some_slot test
+unfolding some_slot series
+some-slot test = any-passes test (λ j. j) 0 slot_count
 
 -- what a call for each number makes, and a call for each element, where calls leave the closure as it is
 module _ {F B : Type 0} {g : Mut F (ℕ × Unit {0}) B} {f : F} (ys : List B) (k : ℕ → B) (n : ℕ)

@@ -15,7 +15,9 @@ abbrev pub overlaps : Record → Record → Bool
 overlaps r x = one_stop_one_levelled r x && meet r.direction.0 x.direction.0 && overlap r.period x.period
 
 abbrev pub overlap_at : List ℕ → Record → ℕ → Bool
-overlap_at after r i = used (slot_at after i) && overlaps r (record_at after i)
+overlap_at after r i =
+    used (slot_at after i) && one_stop_one_levelled r (record_at after i) && meet r.direction.0 (record_at after i).direction.0
+    && overlap r.period (record_at after i).period
 
 abbrev pub minute_warnings : List ℕ → Head → ℕ
 minute_warnings after h = worth 2 (warns_minute above_max after h) + worth 4 (warns_minute below_min after h)

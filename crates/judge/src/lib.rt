@@ -197,8 +197,7 @@ fn survey_slots(b: &[u8], h: Head, slot: Option<u8>, changes: bool) -> [SlotAnsw
 fn free_slot(slots: [SlotAnswers; 8]) -> Option<u8>
     ensures { result ≡ free_among slots }
 {
-    let i = slots.iter().position(|a| !a.stays)?;
-    Some(i as u8)
+    slots.iter().position(|a| !a.stays).map(|i| i as u8)
 }
 
 #[tactic(auto, unfolding(fields::specs::Lists::pick))]
