@@ -12,7 +12,6 @@ use Rattle.fields.specs.Lists.{pick, series}
 use Rattle.fields.proofs.Tests.{series-at}
 use Rattle.report.specs.declared.Head.{Head}
 use Rattle.report.specs.Report.{head_of}
-use Rattle.rules.specs.declared.PowerRange.{PowerRange}
 use Rattle.rules.specs.declared.UnitHead.{UnitHead}
 use Rattle.rules.specs.Codes.{forced_work}
 use Rattle.rules.specs.Block.{slot_at, used, unit_head}
@@ -20,6 +19,7 @@ use Rattle.rules.specs.Questions.{event_head, range_of, leaves, vacates}
 use Rattle.rules.specs.Minutes.{block_records}
 use Rattle.rules.specs.After.{block_after, some_slot, warns_overlap, warns_minute, warns_left, worth, warnings}
 use Rattle.levels.specs.declared.LevelWarnings.{LevelWarnings}
+use Rattle.levels.specs.declared.Limits.{Limits}
 use Rattle.levels.specs.Counted.{counted_records}
 use Rattle.levels.specs.Within.{level_warnings}
 use Rattle.judge.specs.Warned.{minute_warnings, warnings_on}
@@ -38,9 +38,10 @@ module _ (after : List ℕ) (h : Head) where
     unfolding warns_minute pick
     minutes-silent e = rw (not-true _ (sym compared ∙ e))
 
-    pub minutes-warn : {counted : List Bool} {u : UnitHead} {r : PowerRange} {g : LevelWarnings} {x y : ℕ} → others ≡ false
-        → counted ≡ series (λ i. used (slot_at after i)) 0 8 → u ≡ unit_head after → r ≡ range_of u.powers h.direction.0
-        → g ≡ level_warnings u.kind.0 r (counted_records after counted) h.direction.0 h.period.start.0 h.period.end.0
+    pub minutes-warn : {counted : List Bool} {u : UnitHead} {l : Limits} {g : LevelWarnings} {x y : ℕ} → others ≡ false
+        → counted ≡ series (λ i. used (slot_at after i)) 0 8 → u ≡ unit_head after
+        → l ≡ record { kind = u.kind; range = range_of u.powers h.direction.0 }
+        → g ≡ level_warnings l.kind.0 l.range (counted_records after counted) h.direction.0 h.period.start.0 h.period.end.0
         → x ≡ worth 2 g.above → y ≡ worth 4 g.below → x + y ≡ minute_warnings after h
     unfolding warns_minute level_warnings
     minutes-warn e c f q p a b = rw (a, b, p, q, f, c, block-counted after, not-false _ (sym compared ∙ e))
