@@ -24,7 +24,7 @@ use Rattle.rules.specs.Block.{slot_count, slot_numbered, unit_head}
 use Rattle.rules.specs.Questions.{creation_head, record_by, record_at, holder, held_record, other, leaves, stays, clash_closed, free_slot, changes_by, changes_state, question15, question16, question18, question19}
 use Rattle.rules.specs.Minutes.{FullRecord, reported_records, question17}
 use Rattle.rules.specs.After.{rewrites, slot_written, cleared, some_slot}
-use Rattle.rules.specs.Judge.{must, held_number, limit_number, refusal_number}
+use Rattle.rules.specs.Judge.{must, validation_number, held_number, limit_number, refusal_number}
 use Rattle.rules.proofs.Slots.{numbered}
 use Rattle.levels.specs.Counted.{report_record, swept_records}
 use Rattle.validation.proofs.InOrder.{then_assoc, link, stage}
@@ -172,16 +172,30 @@ module _ (b s : List ℕ) where
       ap (limits_by b s (head_of s) (unit_head b) (slot_numbered (holder b s)) (changes_state b s) deratings_fit) surveyed
       ∙ rw (decided_is, closed-is, others_are, swept-is, free-is, there-is (free_slot b s), limits-in-order (head_of s) (parts_of s) (accepted_decision b s)) (simp then_assoc)
 
-  -- the stages, of what the code hands from one to the next
-  pub decides : {h : Head} (head : h ≡ head_of s) {unit : UnitHead} (read : unit ≡ unit_head b) {v : Validated}
-      (first : v ≡ validated_of unit h (parts_of s)) {r x : Record} {slot : Option ℕ} {is_held : Bool} {next : Result ⊤ Refusal}
-      {changes : Bool} (own : r ≡ record_by h) (found : slot ≡ slot_numbered (holder_of b r))
-      (there : x ≡ record_at b (unwrap_or slot slot_count)) (some : is_held ≡ is_some slot)
-      (asked-next : next ≡ holder_asked unit.last_stamp h is_held x) (moves : changes ≡ changes_by unit.kind.0 h x)
+  by-number : decision_of b s ≡ outcome (head_of s) (parts_of s)
+      (validation_number (unit_head b).kind.0 (head_of s) (parts_of s)
+      (held_number (unit_head b).last_stamp (head_of s) (holder b s) (held_record b s) limits))
+      (accepted_decision b s)
+  unfolding decision_of refusal_number outcome
+  by-number = refl
+
+  in-order : decision_of b s
+      ≡ (outcome (head_of s) (parts_of s) (validation_number (unit_head b).kind.0 (head_of s) (parts_of s) 0) tt
+      then holder_asked (unit_head b).last_stamp (head_of s) (ltb (holder b s) slot_count) (held_record b s)
+      then outcome (head_of s) (parts_of s) limits (accepted_decision b s))
+  in-order =
+      by-number
+      ∙ stage (head_of s) (parts_of s) (unit_head b).kind.0 _ (accepted_decision b s)
+      ∙ rw (held-in-order (head_of s) (parts_of s) (accepted_decision b s))
+
+  -- of what the code hands from one stage to the next
+  pub decides : {h : Head} {unit : UnitHead} {v : Validated} {r x : Record} {slot : Option ℕ} {is_held changes : Bool}
+      {next : Result ⊤ Refusal} → h ≡ head_of s → unit ≡ unit_head b → v ≡ validated_of unit h (parts_of s) → r ≡ record_by h
+      → slot ≡ slot_numbered (holder_of b r) → x ≡ record_at b (unwrap_or slot slot_count) → is_held ≡ is_some slot
+      → next ≡ holder_asked unit.last_stamp h is_held x → changes ≡ changes_by unit.kind.0 h x
       → (v.passed then next then limits_decided b s h unit slot changes v.deratings) ≡ decision_of b s
-  unfolding decision_of refusal_number holder_of holder changes_state
-  decides {h} head {unit} read {v} first {r} {x} {slot} own found there some asked-next moves =
+  unfolding holder_of holder changes_state
+  decides {x = x} {slot = slot} head read first own found there some next moves =
       let slot_is : slot ≡ slot_numbered (holder b s) = found ∙ rw (own, head) in
       let held_is : x ≡ held_record b s = there ∙ rw (slot_is, number-back (holder b s) holder-most) in
-      rw (moves, asked-next, some, held_is, slot_is, there-is (holder b s), first, read, head, limits-are)
-      (sym (stage (head_of s) (parts_of s) (unit_head b).kind.0 _ (accepted_decision b s) ∙ rw (held-in-order (head_of s) (parts_of s) (accepted_decision b s) (unit_head b).last_stamp (holder b s) (held_record b s) limits)))
+      rw (moves, next, some, held_is, slot_is, there-is (holder b s), first, read, head, limits-are) (sym in-order)

@@ -10,7 +10,7 @@ use Rattle.std.proofs.lemmas.List.{same_lists, length-map, get_or-map}
 use borrow.Author.Tests.{lt-ltb, le-ltb, eqb-true, eqb-false}
 use mathlib.Core.Path.{◌≡◌, refl, ap, sym, subst, ◌∙◌}
 use mathlib.Core.Bool.{Bool, true, false, not, ◌&&◌, ◌||◌}
-use mathlib.Core.List.{List}
+use mathlib.Core.List.{List, [], ◌∷◌}
 use native.Mathlib.Omega.{arith}
 use native.Mathlib.Nat.{zero-add}
 use lib.ListN.{length, get_or}
@@ -84,39 +84,14 @@ module _ {F B : Type 0} {g : Mut F (ℕ × Unit {0}) B} {f : F} (ys : List B) (k
       made-at 0 n (omega arith) made.each i d (omega arith) (omega arith)
       ∙ sym (series-at k 0 n i d (omega arith) ∙ ap k (zero-add i)))
 
-pub made-map : {F A B : Type 0} {g : Mut F (A × Unit {0}) B} {f : F} (xs : List A) {ys : List B} (k : A → B) (n : ℕ) (e : A)
-    → length xs ≡ n → IsMapOf g f xs ys n → ((p q : F) (x : A) (y : B) → Called g p (x, tt) y q → y ≡ k x) → ys ≡ map k xs
-made-map {F} {A} {B} {g} {f} xs {ys} k n e long made same =
-    same_lists ys (map k xs) (made.long ∙ sym long ∙ sym (length-map xs k))
+pub made-map : {F A B : Type 0} {g : Mut F (A × Unit {0}) B} {f : F} (xs : List A) {ys : List B} (k : A → B) (n : ℕ) → length xs ≡ n
+    → IsMapOf g f xs ys n → ((p q : F) (x : A) (y : B) → Called g p (x, tt) y q → y ≡ k x) → ys ≡ map k xs
+made-map [] {ys} k n long made same = same_lists ys [] (made.long ∙ sym long) (λ i d l. absurd (omega (arith, made.long)))
+made-map (x ∷ xs) {ys} k n long made same =
+    same_lists ys (map k (x ∷ xs)) (made.long ∙ sym long ∙ sym (length-map (x ∷ xs) k))
     (λ i d l.
-    let same_size : length ys ≡ n = made.long in
-    let at = made.at i e d (omega arith) in
-    same at.0 at.1 _ _ at.2 ∙ sym (get_or-map k xs i e d (omega arith)))
-
--- an element, where a list may have none
-pub no_answers : SlotAnswers
-no_answers = record { other = false; closed = false; leaves = false; stays = false; cleared = false }
-
--- who skips 17 need not have it asked
-pub minutes-asked : (h : Head) (q17 : Bool) {passed_over minutes : Bool} → passed_over ≡ skips h 17
-    → minutes ≡ pick (not passed_over) q17 true → must h 17 minutes ≡ must h 17 q17
-unfolding pick
-minutes-asked h q17 {passed_over} {minutes} e f = by-case (skips h 17) refl where
-  by-case : (t : Bool) → skips h 17 ≡ t → must h 17 minutes ≡ must h 17 q17
-  by-case true k = rw k
-  by-case false k = rw (f, e, k)
-
--- the sweep of question 17
-module _ (h : Head) (unit : UnitHead) (ws : List FullRecord) {t : Bool} (asked : t ≡ is_levelled h.record_type.0) where
-  pub minutes-skipped : t ≡ false → true ≡ question17 unit.kind.0 unit.powers ws h
-  unfolding question17
-  minutes-skipped n = rw (sym asked ∙ n)
-
-  pub minutes-swept : {r : PowerRange} {ok : Bool} → t ≡ true → r ≡ range_of unit.powers h.direction.0
-      → ok ≡ levels_every (levels_fit unit.kind.0 r) ws h.direction.0 h.period.start.0 h.period.end.0
-      → ok ≡ question17 unit.kind.0 unit.powers ws h
-  unfolding question17
-  minutes-swept n q p = p ∙ rw (q, sym asked ∙ n)
+    let at = made.at i x d (omega (arith, made.long)) in
+    same at.0 at.1 _ _ at.2 ∙ sym (get_or-map k (x ∷ xs) i x d (omega (arith, made.long))))
 
 -- the slots that are marked are those that pass the test
 pub records-same : (b : List ℕ) (p q : ℕ → Bool) (i n : ℕ) → ((j : ℕ) → i ≤ j → j < i + n → p j ≡ q j)
