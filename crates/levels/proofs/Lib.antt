@@ -1,6 +1,7 @@
 pub mod Spans
 pub mod Parts
 pub mod EachLane
+pub mod Gathered
 pub mod Bounds
 pub mod Turns
 pub mod Asked

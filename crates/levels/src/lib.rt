@@ -9,7 +9,8 @@ ghost use Rattle.levels.specs.Pairs.{pairs_of, level_among_pairs, Passed};
 ghost use Rattle.levels.specs.Counted.{counted_records, swept_records};
 ghost use Rattle.levels.specs.Lanes.{lane_count, lane_of, report_lane, slot_lane, lane_at, lane_pair, lane_level, lane_levels, Stepped, Placed, Held, Chosen, chosen_levels, span_at, moved, soonest, Ready};
 ghost use Rattle.levels.specs.Result.{with_span, both_found, found_in, Ran};
-ghost use Rattle.levels.specs.Extremes.{counted_types, types_meet, LaneWithin, WiderBy, CoversType, highest_of, extremes_fit, common, with_unfit, AsksBy, AsksType};
+ghost use Rattle.levels.specs.Extremes.{counted_types, types_meet, LaneWithin, with_power, CoversType, highest_of, extremes_fit, common, with_unfit, AsksType};
+ghost use Rattle.levels.specs.Gathered.{GathersPairs, GathersLanes};
 ghost use Rattle.rules.specs.Codes.{forced_work};
 ghost use Rattle.levels.specs.Within.{power_within, pairs_within, slot_within, forced_within, level_warnings};
 
@@ -151,7 +152,7 @@ impl<'a> Source<'a> {
         }
     }
 
-    // The power of the first pair that ends after the minute; it stays up to that end.
+    // The power of the first pair that ends after the minute; it stays up to that end. By number: pairs are read one by one, of bytes.
     fn step_among(self, count: u16, place: u16, m: Minute) -> LaneSpan
         requires m_bound { m.0 < 4294967295 }
         requires passed { Passed (pairs_of self) count place m.0 }
@@ -218,36 +219,25 @@ impl<'a> Source<'a> {
         step.span.until
     }
 
-    // The extremes of so many pairs and of what was seen before.
-    fn extremes_in(self, count: u16, seen: Extremes) -> Extremes
-        ensures { WiderBy (pairs_of self.entry) count seen result }
+    // What a closure makes of a lane's pairs in turn; it is told the minute at which a pair's own begin, where the one before it ends.
+    // By number, as in `step_among`.
+    fn gather<G: Copy, F: Fn(G, Minute, Pair) -> G + Copy>(
+        self,
+        lane: Lane,
+        seen: G,
+        with_pair: F,
+    ) -> G
+        requires { F.IsAlwaysCallable with_pair }
+        ensures { GathersPairs (F.post with_pair) (series (pairs_of self.entry) 0 lane.count) lane.period.start seen result }
     {
-        let mut e = seen;
-        for j in 0..count {
-            let power = self.pair(j).power;
-            e = Extremes {
-                lowest: e.lowest.min(power),
-                highest: e.highest.max(power),
-            };
-        }
-        e
-    }
-
-    // The minutes to be asked of a lane's pairs: each begins where the one before it ends.
-    fn asked_in<F: Fn(Kilowatt) -> bool + Copy>(self, lane: Lane, passes: F, seen: Period) -> Period
-        requires { F.IsAlwaysCallable passes }
-        ensures { AsksBy (λ p. F.post passes p true) (pairs_of self.entry) lane.count lane.period.start.0 seen result }
-    {
-        let mut asked = seen;
+        let mut gathered = seen;
         let mut from = lane.period.start;
         for j in 0..lane.count {
             let pair = self.pair(j);
-            let to = pair.end;
-            let fit = passes(pair.power);
-            asked = with_unfit(asked, from, to, fit);
-            from = to;
+            gathered = with_pair(gathered, from, pair);
+            from = pair.end;
         }
-        asked
+        gathered
     }
 }
 
@@ -441,21 +431,44 @@ impl<'a> Lanes<'a> {
         if is_within { Some(lane) } else { None }
     }
 
+    // What a closure makes of the pairs of the lanes of a type that share a minute with the period. By number: a lane's pairs go by it.
+    fn gather<G: Copy, F: Fn(G, Minute, Pair) -> G + Copy>(
+        &self,
+        record_type: RecordType,
+        period: Period,
+        seen: G,
+        with_pair: F,
+    ) -> G
+        requires { F.IsAlwaysCallable with_pair }
+        ensures { GathersLanes (F.post with_pair) self.now record_type.0 period 0 lane_count seen result }
+    {
+        let mut gathered = seen;
+        for i in 0..LANE_COUNT {
+            let Some(lane) = self.lane_within(i, record_type, period) else {
+                continue;
+            };
+            gathered = self.pairs(i).gather(lane, gathered, with_pair);
+        }
+        gathered
+    }
+
     // The extremes of the lanes of a type that share a minute with the period.
     fn extremes_of(&self, record_type: RecordType, period: Period) -> Option<Extremes>
         ensures { CoversType self.now record_type.0 period result }
     {
         // Of no power: the lowest is above the highest. A flag or an Option here would be asked in every turn.
-        let mut e = Extremes {
+        let none = Extremes {
             lowest: Kilowatt(4294967295),
             highest: Kilowatt(0),
         };
-        for i in 0..LANE_COUNT {
-            let Some(lane) = self.lane_within(i, record_type, period) else {
-                continue;
-            };
-            e = self.pairs(i).extremes_in(lane.count, e);
-        }
+        let e = self.gather(
+            record_type,
+            period,
+            none,
+            |e: Extremes, _from: Minute, pair: Pair| -> Extremes
+                ensures { result ≡ with_power e pair.power }
+            { with_power(e, pair.power) },
+        );
         if e.lowest <= e.highest { Some(e) } else { None }
     }
 
@@ -464,17 +477,18 @@ impl<'a> Lanes<'a> {
         requires { F.IsAlwaysCallable passes }
         ensures { AsksType self.now forced_work period (λ p. F.post passes p true) result }
     {
-        let mut asked = Period {
+        let none = Period {
             start: LAST,
             end: Minute(0),
         };
-        for i in 0..LANE_COUNT {
-            let Some(lane) = self.lane_within(i, RecordType::FORCED_WORK, period) else {
-                continue;
-            };
-            asked = self.pairs(i).asked_in(lane, passes, asked);
-        }
-        asked
+        self.gather(
+            RecordType::FORCED_WORK,
+            period,
+            none,
+            |asked: Period, from: Minute, pair: Pair| {
+                with_unfit(asked, from, pair.end, passes(pair.power))
+            },
+        )
     }
 }
 
@@ -702,6 +716,15 @@ fn both_found(g: SweepResult, h: SweepResult) -> SweepResult
         fits: g.fits & h.fits,
         above: g.above | h.above,
         below: g.below | h.below,
+    }
+}
+
+fn with_power(e: Extremes, power: Kilowatt) -> Extremes
+    ensures { result ≡ with_power e power }
+{
+    Extremes {
+        lowest: e.lowest.min(power),
+        highest: e.highest.max(power),
     }
 }
 
