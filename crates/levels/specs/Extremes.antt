@@ -7,13 +7,13 @@ use Rattle.quantities.specs.declared.Minute.{Minute}
 use Rattle.quantities.specs.declared.Period.{Period}
 use Rattle.rules.specs.Codes.{positive_derating, negative_derating, forced_work}
 use Rattle.rules.specs.Block.{slot_count}
-use Rattle.rules.specs.Questions.{record_at}
+use Rattle.rules.specs.Questions.{record_of, record_at}
 use Rattle.rules.specs.Minutes.{fits_beside}
-use Rattle.levels.specs.declared.CountedTypes.{CountedTypes}
 use Rattle.levels.specs.declared.Extremes.{Extremes}
 use Rattle.levels.specs.declared.Lane.{Lane}
 use Rattle.levels.specs.declared.Lanes.{Lanes}
 use Rattle.levels.specs.declared.Limits.{Limits}
+use Rattle.levels.specs.declared.Swept.{Swept}
 use Rattle.levels.specs.Lanes.{lane_in, lane_pair, level_if_lane, type_level}
 
 -- slot i counts and is of a type; some slot is
@@ -23,18 +23,14 @@ type_at b counted type i = get_or counted i false && eqb (record_at b i).record_
 unfoldable pub some_of_type : List ℕ → List Bool → ℕ → Bool
 some_of_type b counted type = not (all (λ i. not (type_at b counted type i)) (series (λ i. i) 0 slot_count))
 
-abbrev pub counted_types : List ℕ → List Bool → CountedTypes
-counted_types b counted = record {
-  forced = some_of_type b counted forced_work;
-  positive = some_of_type b counted positive_derating;
-  negative = some_of_type b counted negative_derating;
-}
+-- a record of a type counts, the report's among them
+abbrev pub type_counts : List ℕ → List ℕ → Swept → ℕ → Bool
+type_counts b s swept type = swept.with_report && eqb (record_of s).record_type.0 type || some_of_type b swept.counted type
 
--- forced work and a derating count, the report's record among them
-abbrev pub types_meet : CountedTypes → Bool → ℕ → Bool
-types_meet counted with-report type =
-    (counted.forced || with-report && eqb type forced_work)
-    && ((counted.positive || with-report && eqb type positive_derating) || (counted.negative || with-report && eqb type negative_derating))
+-- forced work and a derating count
+unfoldable pub types_meet : List ℕ → List ℕ → Swept → Bool
+types_meet b s swept =
+    type_counts b s swept forced_work && (type_counts b s swept positive_derating || type_counts b s swept negative_derating)
 
 -- lane i, or none where it has no level of the type in any minute of the period
 abbrev pub LaneWithin : Lanes → ℕ → ℕ → Period → Option Lane → Type 0

@@ -9,7 +9,7 @@ ghost use Rattle.levels.specs.Pairs.{pairs_of, level_among_pairs, Passed};
 ghost use Rattle.levels.specs.Counted.{counted_records, swept_records};
 ghost use Rattle.levels.specs.Lanes.{lane_count, lane_of, report_lane, slot_lane, lane_at, lane_pair, lane_level, lane_levels, Stepped, Placed, Held, Chosen, chosen_levels, span_at, moved, soonest, Ready};
 ghost use Rattle.levels.specs.Result.{with_span, both_found, found_in, Ran};
-ghost use Rattle.levels.specs.Extremes.{counted_types, types_meet, LaneWithin, with_power, CoversType, highest_of, extremes_fit, common, with_unfit, AsksType};
+ghost use Rattle.levels.specs.Extremes.{some_of_type, type_counts, types_meet, LaneWithin, with_power, CoversType, highest_of, extremes_fit, common, with_unfit, AsksType};
 ghost use Rattle.levels.specs.Gathered.{GathersPairs, GathersLanes};
 ghost use Rattle.rules.specs.Codes.{forced_work};
 ghost use Rattle.levels.specs.Within.{power_within, pairs_within, slot_within, forced_within, level_warnings};
@@ -103,14 +103,6 @@ pub struct Extremes {
 pub struct Limits {
     pub kind: Kind,
     pub range: PowerRange,
-}
-
-// The types that question 17 is about, among the slots that count.
-#[derive(Clone, Copy)]
-pub struct CountedTypes {
-    pub forced: bool,
-    pub positive: bool,
-    pub negative: bool,
 }
 
 // Question 17, and warnings 2 and 4. They are found together: `sweep_lanes` serves both, which differ in what is asked before it.
@@ -278,11 +270,12 @@ fn moved<'a>(at: Option<Place<'a>>, until: Minute, m: Minute) -> Option<Place<'a
     at
 }
 
-// A record's lane, if it counts and is of the direction asked.
-fn lane_of(counts: bool, r: Record, count: u16) -> Option<Lane>
-    ensures { result ≡ lane_of counts r count }
+// A record's lane, if it is of the direction asked.
+#[tactic(auto, unfolding(crate::specs::Lanes::lane_of, fields::specs::Lists::pick))]
+fn lane_of(r: Record, count: u16, direction: Direction) -> Option<Lane>
+    ensures { result ≡ lane_of r count direction.0 }
 {
-    if !counts {
+    if r.direction != direction {
         return None;
     }
     Some(Lane {
@@ -292,48 +285,45 @@ fn lane_of(counts: bool, r: Record, count: u16) -> Option<Lane>
     })
 }
 
-fn report_lane(report: &[u8], with_report: bool, direction: Direction) -> Option<Lane>
-    ensures { result ≡ report_lane report.now with_report direction.0 }
+fn report_lane(report: &[u8], direction: Direction) -> Option<Lane>
+    ensures { result ≡ report_lane report.now direction.0 }
 {
-    if !with_report {
-        return None;
-    }
     let h = report::head_of(report);
-    let r = records::record_by(h);
-    lane_of(r.direction == direction, r, h.part_count)
+    lane_of(records::record_by(h), h.part_count, direction)
 }
 
-fn slot_lane(b: &[u8], i: u8, counted: bool, direction: Direction) -> Option<Lane>
-    ensures { result ≡ slot_lane b.now i counted direction.0 }
+fn slot_lane(b: &[u8], i: u8, direction: Direction) -> Option<Lane>
+    ensures { result ≡ slot_lane b.now i direction.0 }
 {
-    if !counted {
-        return None;
-    }
     let z = block::slot_at(b, i);
-    let r = block::record_in(z);
-    lane_of(r.direction == direction, r, block::stored_count(z))
+    lane_of(block::record_in(z), block::stored_count(z), direction)
 }
 
+// The lanes of records that count.
 fn lane_at(b: &[u8], report: &[u8], swept: Swept, direction: Direction, i: u8) -> Option<Lane>
     requires { i < lane_count }
     ensures { result ≡ lane_at b.now report.now swept direction.0 i }
 {
     if i == 0 {
-        return report_lane(report, swept.with_report, direction);
+        return if swept.with_report {
+            report_lane(report, direction)
+        } else {
+            None
+        };
     }
     let slot = i - 1;
-    slot_lane(b, slot, swept.counted[slot as usize], direction)
+    if swept.counted[slot as usize] {
+        slot_lane(b, slot, direction)
+    } else {
+        None
+    }
 }
 
 // The lanes of one direction have the levels of the records that count.
 fn lanes_of<'a>(b: &'a [u8], report: &'a [u8], swept: Swept, direction: Direction) -> Lanes<'a>
     ensures { (m : ℕ) → lane_levels result m ≡ levels_at (swept_records b.now report.now swept.counted swept.with_report) direction.0 m }
 {
-    let mut each = [None; 9];
-    for i in 0..LANE_COUNT {
-        let lane = lane_at(b, report, swept, direction, i);
-        each[i as usize] = lane;
-    }
+    let each = std::array::from_fn(|i: usize| lane_at(b, report, swept, direction, i as u8));
     Lanes {
         block: b,
         report,
@@ -660,41 +650,30 @@ impl Limits {
         !self.is_high(power) & !self.is_low(power)
     }
 
-    // Every pair is tested, without an early exit: the turns are then alike.
+    // A fold and not `all`: every pair is tested, without an early exit, so that the turns are alike.
     fn pairs_within(self, z: &[u8]) -> bool
         ensures { result ≡ pairs_within z.now self }
     {
-        let count = block::stored_count(z);
-        let mut ok = true;
-        for j in 0..count {
-            let pair = block::pair_at(z, j);
-            ok = ok & self.power_within(pair.power);
-        }
-        ok
+        (0..block::stored_count(z)).fold(
+            true,
+            |ok, j| ok & self.power_within(block::pair_at(z, j).power),
+        )
     }
 
-    fn slot_within(self, b: &[u8], i: u8, counted: bool, direction: Direction) -> bool
-        ensures { result ≡ slot_within b.now i counted direction.0 self }
+    #[tactic(auto, unfolding(crate::specs::Within::slot_within))]
+    fn slot_within(self, b: &[u8], i: u8, direction: Direction) -> bool
+        ensures { result ≡ slot_within b.now i direction.0 self }
     {
-        if !counted {
-            return true;
-        }
         let z = block::slot_at(b, i);
         let r = block::record_in(z);
-        if (r.record_type == RecordType::FORCED_WORK) & (r.direction == direction) {
-            return self.pairs_within(z);
-        }
-        true
+        let is_forced = (r.record_type == RecordType::FORCED_WORK) & (r.direction == direction);
+        !is_forced || self.pairs_within(z)
     }
 
     fn forced_within(self, b: &[u8], counted: [bool; 8], direction: Direction) -> bool
         ensures { result ≡ forced_within b.now counted direction.0 self }
     {
-        let mut ok = true;
-        for i in 0..SLOT_COUNT {
-            ok = ok & self.slot_within(b, i, counted[i as usize], direction);
-        }
-        ok
+        (0..SLOT_COUNT).all(|i| !counted[i as usize] || self.slot_within(b, i, direction))
     }
 }
 
@@ -741,37 +720,31 @@ fn with_unfit(asked: Period, from: Minute, to: Minute, fit: bool) -> Period
     }
 }
 
-// Which types the slots that count have.
-fn counted_types(b: &[u8], counted: [bool; 8]) -> CountedTypes
-    ensures { result ≡ counted_types b.now counted }
+// Whether a slot that counts is of a type.
+fn some_of_type(b: &[u8], counted: [bool; 8], record_type: RecordType) -> bool
+    ensures { result ≡ some_of_type b.now counted record_type.0 }
 {
-    let mut unforced = true;
-    let mut no_positive = true;
-    let mut no_negative = true;
-    for i in 0..SLOT_COUNT {
-        let r = block::record_in(block::slot_at(b, i));
-        let counts = counted[i as usize];
-        unforced = unforced & !(counts & (r.record_type == RecordType::FORCED_WORK));
-        no_positive = no_positive & !(counts & (r.record_type == RecordType::POSITIVE_DERATING));
-        no_negative = no_negative & !(counts & (r.record_type == RecordType::NEGATIVE_DERATING));
-    }
-    CountedTypes {
-        forced: !unforced,
-        positive: !no_positive,
-        negative: !no_negative,
-    }
+    (0..SLOT_COUNT).any(|i| {
+        counted[i as usize] && block::record_in(block::slot_at(b, i)).record_type == record_type
+    })
 }
 
-// Forced work and a derating count, the report's record among them.
-fn types_meet(counted: CountedTypes, with_report: bool, record_type: RecordType) -> bool
-    ensures { result ≡ types_meet counted with_report record_type.0 }
+// The same, the report's record among them.
+fn type_counts(b: &[u8], report: &[u8], swept: Swept, record_type: RecordType) -> bool
+    ensures { result ≡ type_counts b.now report.now swept record_type.0 }
 {
-    let forced = counted.forced | (with_report & (record_type == RecordType::FORCED_WORK));
-    let positive = counted.positive
-        | (with_report & (record_type == RecordType::POSITIVE_DERATING));
-    let negative = counted.negative
-        | (with_report & (record_type == RecordType::NEGATIVE_DERATING));
-    forced & (positive | negative)
+    let of_report = swept.with_report & (report::head_of(report).record_type == record_type);
+    of_report || some_of_type(b, swept.counted, record_type)
+}
+
+// Forced work and a derating count.
+#[tactic(auto, unfolding(crate::specs::Extremes::types_meet))]
+fn types_meet(b: &[u8], report: &[u8], swept: Swept) -> bool
+    ensures { result ≡ types_meet b.now report.now swept }
+{
+    let counts = |t: RecordType| type_counts(b, report, swept, t);
+    counts(RecordType::FORCED_WORK)
+        && (counts(RecordType::POSITIVE_DERATING) || counts(RecordType::NEGATIVE_DERATING))
 }
 
 // Question 17 in every minute of a period, of the records of one direction. Swept are only minutes between forced levels that do not
@@ -786,13 +759,7 @@ pub fn fits(
 ) -> bool
     ensures { result ≡ levels_every (levels_fit limits.kind.0 limits.range) (swept_records b.now report.now swept.counted swept.with_report) direction.0 period.start.0 period.end.0 }
 {
-    let counted = swept.counted;
-    let types = counted_types(b, counted);
-    if !types_meet(
-        types,
-        swept.with_report,
-        report::head_of(report).record_type,
-    ) {
+    if !types_meet(b, report, swept) {
         return true;
     }
     let lanes = lanes_of(b, report, swept, direction);
