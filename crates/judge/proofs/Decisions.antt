@@ -1,7 +1,7 @@
 -- What is decided of decoded values is what paper 01 decides of the block and the report. Assumes nothing.
 use Prim.Native.Nat.{ℕ, zero, suc, ◌+◌, ◌≤◌, ◌<◌}
 use mathlib.Core.Path.{◌≡◌, refl, ap, sym, ◌∙◌}
-use mathlib.Core.Bool.{Bool, true, false, not, ◌&&◌, ◌||◌}
+use mathlib.Core.Bool.{Bool, true, false, not}
 use mathlib.Core.List.{List, [], ◌∷◌}
 use native.Mathlib.Omega.{arith}
 use native.Mathlib.Nat.{zero-add}
@@ -12,8 +12,7 @@ use Rattle.std.specs.Prelude.{Option, Result, Ok, map, position, ⊤}
 use Rattle.std.specs.List.{list_any, list_all}
 use Rattle.std.specs.Option.{is_some, unwrap_or}
 use Rattle.fields.specs.Lists.{pick, all, series, seek}
-use Rattle.fields.proofs.Bools.{pick-elim}
-use Rattle.fields.proofs.Tests.{series-at}
+use Rattle.fields.proofs.Tests.{series-at, seek-most}
 use Rattle.quantities.specs.declared.Minute.{Minute}
 use Rattle.report.specs.declared.Head.{Head}
 use Rattle.report.specs.declared.Part.{Part}
@@ -35,7 +34,7 @@ use Rattle.validation.specs.Parts.{validated_of}
 use Rattle.judge.specs.declared.SlotAnswers.{SlotAnswers}
 use Rattle.judge.specs.Survey.{holder_of, slot_answers, answers_at, survey_of, free_among}
 use Rattle.judge.specs.Decided.{written_by, holder_asked, limits_asked, limits_by, limits_decided, surveyed_decision, accepted_decision, decision_of}
-use Rattle.judge.proofs.Joins.{records-same}
+use Rattle.judge.proofs.Joins.{records-same, any-passes}
 
 -- questions 10 to 14, and 15 to 19, asked by number and as code asks them
 module _ (h : Head) (ps : List Part) {A : Type 0} (value : A) where
@@ -65,16 +64,7 @@ unfolding series
 series-same f g i zero h = refl
 series-same f g i (suc n) h = rw (h i (omega arith), series-same f g (i + 1) n (λ j l. h j (omega arith)))
 
--- one of them passes
-any-passes : {A : Type 0} (p : A → Bool) (g : ℕ → A) (i n : ℕ)
-    → list_any p (series g i n) ≡ not (all (λ j. not (p (g j))) (series (λ j. j) i n))
-unfolding series all
-any-passes p g i zero = refl
-any-passes p g i (suc n) = rw (any-passes p g (i + 1) n) (either (p (g i)) (all (λ j. not (p (g j))) (series (λ j. j) (i + 1) n))) where
-  either : (a b : Bool) → (a || not b) ≡ not (not a && b)
-  either true b = refl
-  either false b = refl
-
+-- the first that passes
 first-of : (a b c d e f g h : Bool) → position (λ t. t) (a ∷ b ∷ c ∷ d ∷ e ∷ f ∷ g ∷ h ∷ [])
     ≡ slot_numbered (pick a 0 (pick b 1 (pick c 2 (pick d 3 (pick e 4 (pick f 5 (pick g 6 (pick h 7 8))))))))
 unfolding pick
@@ -109,12 +99,6 @@ picked : (t : Bool) (m n : ℕ) → slot_numbered (pick t m n) ≡ pick t (slot_
 unfolding pick
 picked true m n = refl
 picked false m n = refl
-
-seek-most : (p : ℕ → Bool) (i n : ℕ) → seek p i n ≤ i + n
-unfolding seek
-seek-most p i zero = omega arith
-seek-most p i (suc n) =
-    pick-elim (λ (m : ℕ). m ≤ i + suc n) (p i) (λ t. omega arith) (λ t. omega (arith, seek-most p (i + 1) n))
 
 module _ (b s : List ℕ) where
   -- of slot i, by the questions
