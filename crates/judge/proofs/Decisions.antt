@@ -1,19 +1,18 @@
 -- What is decided of decoded values is what paper 01 decides of the block and the report. Assumes nothing.
 use Prim.Native.Nat.{ℕ, zero, suc, ◌+◌, ◌≤◌, ◌<◌}
 use mathlib.Core.Path.{◌≡◌, refl, ap, sym, ◌∙◌}
-use mathlib.Core.Bool.{Bool, true, false, not, ◌&&◌, ◌||◌}
+use mathlib.Core.Bool.{Bool, true, false, not}
 use mathlib.Core.List.{List, [], ◌∷◌}
 use native.Mathlib.Omega.{arith}
 use native.Mathlib.Nat.{zero-add}
-use lib.Dec.{ltb, eqb}
+use lib.Dec.{ltb}
 use lib.ListN.{get_or}
-use borrow.Author.Tests.{eq-eqb, ne_eqb, ltb-false}
-use Rattle.std.specs.Prelude.{Option, Result, Ok, Err, map, position, ⊤}
+use borrow.Author.Tests.{ltb-false}
+use Rattle.std.specs.Prelude.{Option, Result, Ok, map, position, ⊤}
 use Rattle.std.specs.List.{list_any, list_all}
 use Rattle.std.specs.Option.{is_some, unwrap_or}
 use Rattle.fields.specs.Lists.{pick, all, series, seek}
-use Rattle.fields.proofs.Bools.{passed_over, pick-elim}
-use Rattle.fields.proofs.Tests.{series-at}
+use Rattle.fields.proofs.Tests.{series-at, seek-most}
 use Rattle.quantities.specs.declared.Minute.{Minute}
 use Rattle.report.specs.declared.Head.{Head}
 use Rattle.report.specs.declared.Part.{Part}
@@ -25,7 +24,7 @@ use Rattle.rules.specs.Block.{slot_count, slot_numbered, unit_head}
 use Rattle.rules.specs.Questions.{creation_head, record_by, record_at, holder, held_record, other, leaves, stays, clash_closed, free_slot, changes_by, changes_state, question15, question16, question18, question19}
 use Rattle.rules.specs.Minutes.{FullRecord, reported_records, question17}
 use Rattle.rules.specs.After.{rewrites, slot_written, cleared, some_slot}
-use Rattle.rules.specs.Judge.{skips, asked, must, no_to, part_beside, validation_number, held_number, limit_number, refusal_number}
+use Rattle.rules.specs.Judge.{must, validation_number, held_number, limit_number, refusal_number}
 use Rattle.rules.proofs.Slots.{numbered}
 use Rattle.levels.specs.Counted.{report_record, swept_records}
 use Rattle.validation.proofs.InOrder.{then_assoc, link, stage}
@@ -35,7 +34,7 @@ use Rattle.validation.specs.Parts.{validated_of}
 use Rattle.judge.specs.declared.SlotAnswers.{SlotAnswers}
 use Rattle.judge.specs.Survey.{holder_of, slot_answers, answers_at, survey_of, free_among}
 use Rattle.judge.specs.Decided.{written_by, holder_asked, limits_asked, limits_by, limits_decided, surveyed_decision, accepted_decision, decision_of}
-use Rattle.judge.proofs.Joins.{records-same}
+use Rattle.judge.proofs.Joins.{records-same, any-passes}
 
 -- questions 10 to 14, and 15 to 19, asked by number and as code asks them
 module _ (h : Head) (ps : List Part) {A : Type 0} (value : A) where
@@ -65,16 +64,7 @@ unfolding series
 series-same f g i zero h = refl
 series-same f g i (suc n) h = rw (h i (omega arith), series-same f g (i + 1) n (λ j l. h j (omega arith)))
 
--- one of them passes
-any-passes : {A : Type 0} (p : A → Bool) (g : ℕ → A) (i n : ℕ)
-    → list_any p (series g i n) ≡ not (all (λ j. not (p (g j))) (series (λ j. j) i n))
-unfolding series all
-any-passes p g i zero = refl
-any-passes p g i (suc n) = rw (any-passes p g (i + 1) n) (either (p (g i)) (all (λ j. not (p (g j))) (series (λ j. j) (i + 1) n))) where
-  either : (a b : Bool) → (a || not b) ≡ not (not a && b)
-  either true b = refl
-  either false b = refl
-
+-- the first that passes
 first-of : (a b c d e f g h : Bool) → position (λ t. t) (a ∷ b ∷ c ∷ d ∷ e ∷ f ∷ g ∷ h ∷ [])
     ≡ slot_numbered (pick a 0 (pick b 1 (pick c 2 (pick d 3 (pick e 4 (pick f 5 (pick g 6 (pick h 7 8))))))))
 unfolding pick
@@ -109,12 +99,6 @@ picked : (t : Bool) (m n : ℕ) → slot_numbered (pick t m n) ≡ pick t (slot_
 unfolding pick
 picked true m n = refl
 picked false m n = refl
-
-seek-most : (p : ℕ → Bool) (i n : ℕ) → seek p i n ≤ i + n
-unfolding seek
-seek-most p i zero = omega arith
-seek-most p i (suc n) =
-    pick-elim (λ (m : ℕ). m ≤ i + suc n) (p i) (λ t. omega arith) (λ t. omega (arith, seek-most p (i + 1) n))
 
 module _ (b s : List ℕ) where
   -- of slot i, by the questions
@@ -188,16 +172,30 @@ module _ (b s : List ℕ) where
       ap (limits_by b s (head_of s) (unit_head b) (slot_numbered (holder b s)) (changes_state b s) deratings_fit) surveyed
       ∙ rw (decided_is, closed-is, others_are, swept-is, free-is, there-is (free_slot b s), limits-in-order (head_of s) (parts_of s) (accepted_decision b s)) (simp then_assoc)
 
-  -- the stages, of what the code hands from one to the next
-  pub decides : {h : Head} (head : h ≡ head_of s) {unit : UnitHead} (read : unit ≡ unit_head b) {v : Validated}
-      (first : v ≡ validated_of unit h (parts_of s)) {r x : Record} {slot : Option ℕ} {is_held : Bool} {next : Result ⊤ Refusal}
-      {changes : Bool} (own : r ≡ record_by h) (found : slot ≡ slot_numbered (holder_of b r))
-      (there : x ≡ record_at b (unwrap_or slot slot_count)) (some : is_held ≡ is_some slot)
-      (asked-next : next ≡ holder_asked unit.last_stamp h is_held x) (moves : changes ≡ changes_by unit.kind.0 h x)
+  by-number : decision_of b s ≡ outcome (head_of s) (parts_of s)
+      (validation_number (unit_head b).kind.0 (head_of s) (parts_of s)
+      (held_number (unit_head b).last_stamp (head_of s) (holder b s) (held_record b s) limits))
+      (accepted_decision b s)
+  unfolding decision_of refusal_number outcome
+  by-number = refl
+
+  in-order : decision_of b s
+      ≡ (outcome (head_of s) (parts_of s) (validation_number (unit_head b).kind.0 (head_of s) (parts_of s) 0) tt
+      then holder_asked (unit_head b).last_stamp (head_of s) (ltb (holder b s) slot_count) (held_record b s)
+      then outcome (head_of s) (parts_of s) limits (accepted_decision b s))
+  in-order =
+      by-number
+      ∙ stage (head_of s) (parts_of s) (unit_head b).kind.0 _ (accepted_decision b s)
+      ∙ rw (held-in-order (head_of s) (parts_of s) (accepted_decision b s))
+
+  -- of what the code hands from one stage to the next
+  pub decides : {h : Head} {unit : UnitHead} {v : Validated} {r x : Record} {slot : Option ℕ} {is_held changes : Bool}
+      {next : Result ⊤ Refusal} → h ≡ head_of s → unit ≡ unit_head b → v ≡ validated_of unit h (parts_of s) → r ≡ record_by h
+      → slot ≡ slot_numbered (holder_of b r) → x ≡ record_at b (unwrap_or slot slot_count) → is_held ≡ is_some slot
+      → next ≡ holder_asked unit.last_stamp h is_held x → changes ≡ changes_by unit.kind.0 h x
       → (v.passed then next then limits_decided b s h unit slot changes v.deratings) ≡ decision_of b s
-  unfolding decision_of refusal_number holder_of holder changes_state
-  decides {h} head {unit} read {v} first {r} {x} {slot} own found there some asked-next moves =
+  unfolding holder_of holder changes_state
+  decides {x = x} {slot = slot} head read first own found there some next moves =
       let slot_is : slot ≡ slot_numbered (holder b s) = found ∙ rw (own, head) in
       let held_is : x ≡ held_record b s = there ∙ rw (slot_is, number-back (holder b s) holder-most) in
-      rw (moves, asked-next, some, held_is, slot_is, there-is (holder b s), first, read, head, limits-are)
-      (sym (stage (head_of s) (parts_of s) (unit_head b).kind.0 _ (accepted_decision b s) ∙ rw (held-in-order (head_of s) (parts_of s) (accepted_decision b s) (unit_head b).last_stamp (holder b s) (held_record b s) limits)))
+      rw (moves, next, some, held_is, slot_is, there-is (holder b s), first, read, head, limits-are) (sym in-order)

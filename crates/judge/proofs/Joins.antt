@@ -1,90 +1,65 @@
 -- What the code joins is what the definitions join: each law takes what the callees ensure. Assumes nothing.
-use Prim.Native.Nat.{ℕ, zero, suc, ◌+◌, ◌-◌, ◌≤◌, ◌<◌}
-use Rattle.std.specs.Prelude.{Option, Some, None, map}
+use Prim.Native.Nat.{ℕ, zero, suc, ◌+◌, ◌≤◌, ◌<◌}
+use Rattle.std.specs.Prelude.{Option, Some, None, map, find}
+use Rattle.std.specs.List.{range_with_len, list_any}
+use Rattle.std.specs.Option.{option_map}
+use Rattle.rules.specs.After.{some_slot}
 use Rattle.std.specs.Array.{IsFromFnResult, IsFromFnResultFrom, IsMapOf}
 use Rattle.std.specs.Fn.{Mut, Called}
 use Rattle.std.proofs.lemmas.List.{same_lists, length-map, get_or-map}
-use borrow.Author.Tests.{lt-ltb, eqb-true, eqb-false}
+use borrow.Author.Tests.{lt-ltb, le-ltb, eqb-true, eqb-false}
 use mathlib.Core.Path.{◌≡◌, refl, ap, sym, subst, ◌∙◌}
-use mathlib.Core.Bool.{Bool, true, false, not, ◌&&◌}
-use mathlib.Core.List.{List}
+use mathlib.Core.Bool.{Bool, true, false, not, ◌&&◌, ◌||◌}
+use mathlib.Core.List.{List, [], ◌∷◌}
 use native.Mathlib.Omega.{arith}
 use native.Mathlib.Nat.{zero-add}
 use lib.ListN.{length, get_or}
 use lib.Dec.{ltb, eqb}
-use Rattle.fields.specs.Lists.{pick, series, seek}
-use Rattle.fields.proofs.Tests.{series-length, series-at, seek_hit, seek-miss, seek-end}
+use Rattle.fields.specs.Lists.{pick, all, series, seek}
+use Rattle.fields.proofs.Tests.{series-length, series-at}
 use Rattle.report.specs.declared.Head.{Head}
 use Rattle.rules.specs.declared.PowerRange.{PowerRange}
-use Rattle.rules.specs.declared.Record.{Record}
 use Rattle.rules.specs.declared.UnitHead.{UnitHead}
 use Rattle.rules.specs.Codes.{is_levelled}
 use Rattle.rules.specs.Minutes.{FullRecord, records_among, question17, levels_fit, levels_every}
-use Rattle.rules.specs.Records.{same_identifier}
-use Rattle.rules.specs.Block.{slot_count, slot_numbered, slot_at, used, record_in}
-use Rattle.rules.specs.Questions.{record_at, live, range_of}
+use Rattle.rules.specs.Block.{slot_count, slot_numbered}
+use Rattle.rules.specs.Questions.{range_of}
 use Rattle.rules.specs.Judge.{skips, must}
 use Rattle.judge.specs.declared.SlotAnswers.{SlotAnswers}
-use Rattle.judge.specs.Survey.{holder_of, slot_answers, answers_at}
 
--- a slot that was read: free, or with a record
-module _ (b : List ℕ) (i : ℕ) {z : List ℕ} {u : Bool} (read : z ≡ slot_at b i) (asked : u ≡ used z) where
-  not-used : u ≡ false → used (slot_at b i) ≡ false
-  not-used n = rw (← read) (sym asked ∙ n)
+-- what `find` gives over the slots' numbers, and `any`
+found-is : (test : ℕ → Bool) (i n : ℕ) → find test (range_with_len i n) ≡ pick (ltb (seek test i n) (i + n)) (Some (seek test i n)) None
+unfolding seek pick
+found-is test i zero = rw (le-ltb i (i + 0) (omega arith))
+found-is test i (suc n) = by-case (test i) refl (found-is test (i + 1) n) where
+  by-case : (t : Bool) → test i ≡ t
+      → find test (range_with_len (i + 1) n) ≡ pick (ltb (seek test (i + 1) n) (i + 1 + n)) (Some (seek test (i + 1) n)) None
+      → find test (range_with_len i (suc n)) ≡ pick (ltb (seek test i (suc n)) (i + suc n)) (Some (seek test i (suc n))) None
+  by-case true e rest = rw (e, lt-ltb i (i + suc n) (omega arith))
+  by-case false e rest =
+      let k : i + suc n ≡ i + 1 + n = omega arith in
+      rw (e, k) rest
 
-  is-used : u ≡ true → used (slot_at b i) ≡ true
-  is-used n = rw (← read) (sym asked ∙ n)
+as-is : {A : Type 0} (r : Option A) → r ≡ option_map (λ x. x) r
+as-is None = refl
+as-is (Some x) = refl
 
-  pub none-held : (r : Record) → u ≡ false → false ≡ (live b r.stamp.0 i && same_identifier r (record_at b i))
-  unfolding live
-  none-held r n = rw (not-used n)
+pub found-slot : (test : ℕ → Bool) {r : Option ℕ} → option_map (λ x. x) r ≡ find test (range_with_len 0 slot_count)
+    → r ≡ slot_numbered (seek test 0 slot_count)
+found-slot test {r} e = as-is r ∙ e ∙ found-is test 0 slot_count
 
-  pub some-held : (r : Record) {x : Record} {t : Bool} → u ≡ true → x ≡ record_in z → t ≡ same_identifier r x
-      → (ltb r.stamp.0 x.period.end.0 && t) ≡ (live b r.stamp.0 i && same_identifier r (record_at b i))
-  unfolding live
-  some-held r n e q = rw (q, e, read, is-used n)
+pub any-passes : {A : Type 0} (p : A → Bool) (g : ℕ → A) (i n : ℕ)
+    → list_any p (series g i n) ≡ not (all (λ j. not (p (g j))) (series (λ j. j) i n))
+unfolding series all
+any-passes p g i zero = refl
+any-passes p g i (suc n) = rw (any-passes p g (i + 1) n) (either (p (g i)) (all (λ j. not (p (g j))) (series (λ j. j) (i + 1) n))) where
+  either : (a b : Bool) → (a || not b) ≡ not (not a && b)
+  either true b = refl
+  either false b = refl
 
-  pub free-answers : (h : Head) (slot : Option ℕ) (changes : Bool) → u ≡ false
-      → record { other = false; closed = true; leaves = false; stays = false; cleared = false } ≡ answers_at b h slot changes i
-  unfolding answers_at slot_answers live
-  free-answers h slot changes n = rw (not-used n)
-
-  pub used-answers : (h : Head) (slot : Option ℕ) (changes : Bool) {x : Record} {a : SlotAnswers} → u ≡ true → x ≡ record_in z
-      → a ≡ slot_answers h slot changes true (ltb h.stamp.0 x.period.end.0) x i → a ≡ answers_at b h slot changes i
-  unfolding answers_at live
-  used-answers h slot changes n e a = a ∙ rw (e, read, is-used n)
-
--- a search over the slots that is left at the first hit: none before slot i
-pub record Sought (test : ℕ → Bool) (i : ℕ) : Type 0 where
-  pub most : i ≤ slot_count
-  pub so_far : seek test 0 slot_count ≡ seek test i (slot_count - i)
-
-pub sought-none : (test : ℕ → Bool) → Sought test 0
-sought-none test = record { most = omega arith; so_far = refl }
-
-module _ {test : ℕ → Bool} {i : ℕ} (k : Sought test i) where
-  pub sought-hit : i < slot_count → test i ≡ true → i ≡ seek test 0 slot_count
-  sought-hit l e = sym (k.so_far ∙ seek_hit test i slot_count l e)
-
-  pub sought-miss : i < slot_count → test i ≡ false → Sought test (i + 1)
-  sought-miss l e = record { most = omega arith; so_far = k.so_far ∙ seek-miss test i slot_count l e }
-
-  pub sought-all : slot_count ≤ i → slot_count ≡ seek test 0 slot_count
-  sought-all l =
-      let most = k.most in
-      sym (k.so_far ∙ seek-end test i slot_count (omega arith))
-
-abbrev pub is_holder : List ℕ → Record → ℕ → Bool
-is_holder b r i = live b r.stamp.0 i && same_identifier r (record_at b i)
-
-pub found-holder : (b : List ℕ) (r : Record) {i : ℕ} → i < slot_count → i ≡ seek (is_holder b r) 0 slot_count
-    → Some i ≡ slot_numbered (holder_of b r)
-unfolding holder_of pick
-found-holder b r {i} h e = rw (← e, lt-ltb i slot_count h)
-
-pub no-holder : (b : List ℕ) (r : Record) → slot_count ≡ seek (is_holder b r) 0 slot_count → None ≡ slot_numbered (holder_of b r)
-unfolding holder_of pick
-no-holder b r e = rw (← e)
+pub some-slot : (test : ℕ → Bool) → list_any test (range_with_len 0 slot_count) ≡ some_slot test
+unfolding some_slot series
+some-slot test = any-passes test (λ j. j) 0 slot_count
 
 -- what a call for each number makes, and a call for each element, where calls leave the closure as it is
 module _ {F B : Type 0} {g : Mut F (ℕ × Unit {0}) B} {f : F} (ys : List B) (k : ℕ → B) (n : ℕ)
@@ -109,39 +84,14 @@ module _ {F B : Type 0} {g : Mut F (ℕ × Unit {0}) B} {f : F} (ys : List B) (k
       made-at 0 n (omega arith) made.each i d (omega arith) (omega arith)
       ∙ sym (series-at k 0 n i d (omega arith) ∙ ap k (zero-add i)))
 
-pub made-map : {F A B : Type 0} {g : Mut F (A × Unit {0}) B} {f : F} (xs : List A) {ys : List B} (k : A → B) (n : ℕ) (e : A)
-    → length xs ≡ n → IsMapOf g f xs ys n → ((p q : F) (x : A) (y : B) → Called g p (x, tt) y q → y ≡ k x) → ys ≡ map k xs
-made-map {F} {A} {B} {g} {f} xs {ys} k n e long made same =
-    same_lists ys (map k xs) (made.long ∙ sym long ∙ sym (length-map xs k))
+pub made-map : {F A B : Type 0} {g : Mut F (A × Unit {0}) B} {f : F} (xs : List A) {ys : List B} (k : A → B) (n : ℕ) → length xs ≡ n
+    → IsMapOf g f xs ys n → ((p q : F) (x : A) (y : B) → Called g p (x, tt) y q → y ≡ k x) → ys ≡ map k xs
+made-map [] {ys} k n long made same = same_lists ys [] (made.long ∙ sym long) (λ i d l. absurd (omega (arith, made.long)))
+made-map (x ∷ xs) {ys} k n long made same =
+    same_lists ys (map k (x ∷ xs)) (made.long ∙ sym long ∙ sym (length-map (x ∷ xs) k))
     (λ i d l.
-    let same_size : length ys ≡ n = made.long in
-    let at = made.at i e d (omega arith) in
-    same at.0 at.1 _ _ at.2 ∙ sym (get_or-map k xs i e d (omega arith)))
-
--- an element, where a list may have none
-pub no_answers : SlotAnswers
-no_answers = record { other = false; closed = false; leaves = false; stays = false; cleared = false }
-
--- who skips 17 need not have it asked
-pub minutes-asked : (h : Head) (q17 : Bool) {passed_over minutes : Bool} → passed_over ≡ skips h 17
-    → minutes ≡ pick (not passed_over) q17 true → must h 17 minutes ≡ must h 17 q17
-unfolding pick
-minutes-asked h q17 {passed_over} {minutes} e f = by-case (skips h 17) refl where
-  by-case : (t : Bool) → skips h 17 ≡ t → must h 17 minutes ≡ must h 17 q17
-  by-case true k = rw k
-  by-case false k = rw (f, e, k)
-
--- the sweep of question 17
-module _ (h : Head) (unit : UnitHead) (ws : List FullRecord) {t : Bool} (asked : t ≡ is_levelled h.record_type.0) where
-  pub minutes-skipped : t ≡ false → true ≡ question17 unit.kind.0 unit.powers ws h
-  unfolding question17
-  minutes-skipped n = rw (sym asked ∙ n)
-
-  pub minutes-swept : {r : PowerRange} {ok : Bool} → t ≡ true → r ≡ range_of unit.powers h.direction.0
-      → ok ≡ levels_every (levels_fit unit.kind.0 r) ws h.direction.0 h.period.start.0 h.period.end.0
-      → ok ≡ question17 unit.kind.0 unit.powers ws h
-  unfolding question17
-  minutes-swept n q p = p ∙ rw (q, sym asked ∙ n)
+    let at = made.at i x d (omega (arith, made.long)) in
+    same at.0 at.1 _ _ at.2 ∙ sym (get_or-map k (x ∷ xs) i x d (omega (arith, made.long))))
 
 -- the slots that are marked are those that pass the test
 pub records-same : (b : List ℕ) (p q : ℕ → Bool) (i n : ℕ) → ((j : ℕ) → i ≤ j → j < i + n → p j ≡ q j)

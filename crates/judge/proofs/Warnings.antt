@@ -8,38 +8,22 @@ use native.Mathlib.Nat.{zero-add}
 use lib.Dec.{eqb}
 use lib.ListN.{get_or}
 use Rattle.std.proofs.lemmas.Bool.{not-true, not-false}
-use Rattle.fields.specs.Lists.{pick, all, series}
+use Rattle.fields.specs.Lists.{pick, series}
 use Rattle.fields.proofs.Tests.{series-at}
-use Rattle.quantities.specs.Quantities.{overlap}
 use Rattle.report.specs.declared.Head.{Head}
 use Rattle.report.specs.Report.{head_of}
-use Rattle.rules.specs.declared.PowerRange.{PowerRange}
-use Rattle.rules.specs.declared.Record.{Record}
 use Rattle.rules.specs.declared.UnitHead.{UnitHead}
-use Rattle.rules.specs.Codes.{meet, forced_work}
-use Rattle.rules.specs.Block.{slot_at, used, record_in, unit_head}
-use Rattle.rules.specs.Questions.{event_head, record_by, range_of, leaves, vacates}
+use Rattle.rules.specs.Codes.{forced_work}
+use Rattle.rules.specs.Block.{slot_at, used, unit_head}
+use Rattle.rules.specs.Questions.{event_head, range_of, leaves, vacates}
 use Rattle.rules.specs.Minutes.{block_records}
-use Rattle.rules.specs.After.{one_stop_one_levelled, block_after, some_slot, warns_overlap, warns_minute, warns_left, worth, warnings}
+use Rattle.rules.specs.After.{block_after, some_slot, warns_overlap, warns_minute, warns_left, worth, warnings}
 use Rattle.levels.specs.declared.LevelWarnings.{LevelWarnings}
+use Rattle.levels.specs.declared.Limits.{Limits}
 use Rattle.levels.specs.Counted.{counted_records}
 use Rattle.levels.specs.Within.{level_warnings}
-use Rattle.judge.specs.Warned.{overlap_at, minute_warnings, warnings_on}
+use Rattle.judge.specs.Warned.{minute_warnings, warnings_on}
 use Rattle.judge.proofs.Joins.{records-same}
-
--- warning 1, of a slot that was read: free, or with a record
-module _ (after : List ℕ) (r : Record) (i : ℕ) {z : List ℕ} {u : Bool} (read : z ≡ slot_at after i) (asked : u ≡ used z) where
-  pub no-overlap : u ≡ false → false ≡ overlap_at after r i
-  no-overlap n = rw (← read, sym asked ∙ n)
-
-  pub overlap-join : {x : Record} {o m p : Bool} → u ≡ true → x ≡ record_in z → o ≡ one_stop_one_levelled r x
-      → m ≡ meet r.direction.0 x.direction.0 → p ≡ overlap r.period x.period → (o && m && p) ≡ overlap_at after r i
-  overlap-join n f b c d = rw (b, c, d, f, ← read, sym asked ∙ n)
-
-pub warns-join : (after : List ℕ) (h : Head) {r : Record} {none : Bool} → r ≡ record_by h
-    → none ≡ all (λ i. not (overlap_at after r i)) (series (λ i. i) 0 8) → not none ≡ warns_overlap after h
-unfolding warns_overlap some_slot
-warns-join after h e p = ap not p ∙ rw e
 
 block-counted : (b : List ℕ) → counted_records b (series (λ i. used (slot_at b i)) 0 8) ≡ block_records b
 unfolding block_records
@@ -54,9 +38,10 @@ module _ (after : List ℕ) (h : Head) where
     unfolding warns_minute pick
     minutes-silent e = rw (not-true _ (sym compared ∙ e))
 
-    pub minutes-warn : {counted : List Bool} {u : UnitHead} {r : PowerRange} {g : LevelWarnings} {x y : ℕ} → others ≡ false
-        → counted ≡ series (λ i. used (slot_at after i)) 0 8 → u ≡ unit_head after → r ≡ range_of u.powers h.direction.0
-        → g ≡ level_warnings u.kind.0 r (counted_records after counted) h.direction.0 h.period.start.0 h.period.end.0
+    pub minutes-warn : {counted : List Bool} {u : UnitHead} {l : Limits} {g : LevelWarnings} {x y : ℕ} → others ≡ false
+        → counted ≡ series (λ i. used (slot_at after i)) 0 8 → u ≡ unit_head after
+        → l ≡ record { kind = u.kind; range = range_of u.powers h.direction.0 }
+        → g ≡ level_warnings l.kind.0 l.range (counted_records after counted) h.direction.0 h.period.start.0 h.period.end.0
         → x ≡ worth 2 g.above → y ≡ worth 4 g.below → x + y ≡ minute_warnings after h
     unfolding warns_minute level_warnings
     minutes-warn e c f q p a b = rw (a, b, p, q, f, c, block-counted after, not-false _ (sym compared ∙ e))

@@ -1,5 +1,5 @@
 -- What is decided of a report before anything is written.
-use Rattle.std.specs.Prelude.{ℕ, List, Bool, true, not, ◌||◌, eqb, map, Option, None, Result, Ok, Err, ⊤}
+use Rattle.std.specs.Prelude.{ℕ, List, Bool, true, not, ◌||◌, eqb, map, Option, None, Result, Ok, ⊤}
 use Rattle.std.specs.List.{list_any, list_all}
 use Rattle.std.specs.Option.{is_some}
 use Rattle.fields.specs.Lists.{pick, series}
@@ -14,9 +14,9 @@ use Rattle.rules.specs.Block.{slot_count, slot_numbered}
 use Rattle.rules.specs.Questions.{creation_head, changes_state, leaves, question10, question13, question14, question18}
 use Rattle.rules.specs.Minutes.{question17}
 use Rattle.rules.specs.After.{rewrites, slot_written, cleared, some_slot}
-use Rattle.rules.specs.Judge.{must, part_beside, refusal_number}
+use Rattle.rules.specs.Judge.{must, refusal_number}
 use Rattle.levels.specs.Counted.{swept_records}
-use Rattle.validation.specs.FirstNo.{◌then◌, outcome}
+use Rattle.validation.specs.FirstNo.{◌then◌}
 use Rattle.judge.specs.declared.Decision.{Decision}
 use Rattle.judge.specs.declared.SlotAnswers.{SlotAnswers}
 use Rattle.judge.specs.Survey.{survey_of, free_among}
@@ -70,4 +70,6 @@ accepted_decision b s = record {
 
 -- of a report on its unit's block: the first "no", and beside 8 the part
 unfoldable pub decision_of : List ℕ → List ℕ → Result Decision Refusal
-decision_of b s = outcome (head_of s) (parts_of s) (refusal_number b s) (accepted_decision b s)
+decision_of b s =
+    pick (eqb (refusal_number b s) 0) (Ok (accepted_decision b s))
+    (Err (record { number = refusal_number b s; part = part_beside (refusal_number b s) (head_of s) (parts_of s) }))

@@ -1,7 +1,7 @@
 -- What is asked of the slots from question 15 on, of a report's head, the slot that holds its identifier and whether the state
 -- changes.
-use Rattle.std.specs.Prelude.{ℕ, List, Bool, not, ◌&&◌, ◌||◌, eqb, position, Option}
-use Rattle.fields.specs.Lists.{series, seek}
+use Rattle.std.specs.Prelude.{ℕ, List, Bool, not, ◌&&◌, ◌||◌, eqb, position, Option, Some, None}
+use Rattle.fields.specs.Lists.{pick, series, seek}
 use Rattle.report.specs.declared.Head.{Head}
 use Rattle.rules.specs.declared.Record.{Record}
 use Rattle.rules.specs.Codes.{change}
@@ -9,6 +9,10 @@ use Rattle.rules.specs.Records.{same_identifier, clashes, closes}
 use Rattle.rules.specs.Block.{slot_count, is_slot, slot_at, used}
 use Rattle.rules.specs.Questions.{record_by, record_at, live, must_leave, vacates}
 use Rattle.judge.specs.declared.SlotAnswers.{SlotAnswers}
+
+-- the record in slot i, if the slot is used
+unfoldable pub used_record : List ℕ → ℕ → Option Record
+used_record b i = pick (used (slot_at b i)) (Some (record_at b i)) None
 
 -- the live slot that has the record's identifier, or 8
 unfoldable pub holder_of : List ℕ → Record → ℕ

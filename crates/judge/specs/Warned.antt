@@ -10,7 +10,10 @@ use Rattle.rules.specs.Questions.{event_head, vacates, record_at}
 use Rattle.rules.specs.Minutes.{above_max, below_min}
 use Rattle.rules.specs.After.{one_stop_one_levelled, warns_overlap, warns_minute, worth}
 
--- warning 1, of one slot
+-- warning 1, of a record in a slot, and of one slot
+abbrev pub overlaps : Record → Record → Bool
+overlaps r x = one_stop_one_levelled r x && meet r.direction.0 x.direction.0 && overlap r.period x.period
+
 abbrev pub overlap_at : List ℕ → Record → ℕ → Bool
 overlap_at after r i =
     used (slot_at after i) && one_stop_one_levelled r (record_at after i) && meet r.direction.0 (record_at after i).direction.0

@@ -1,26 +1,26 @@
 // Questions 10 to 19 on a unit's block, the number of the first "no", and what an accepted report does to the slots.
 #![tactic(auto)]
 
-ghost use Rattle.std.specs.Prelude.{◌≡◌, true, ◌&&◌, ◌+◌, ◌≤◌, map};
-ghost use Rattle.std.specs.List.{list_any, list_all};
+ghost use Rattle.std.specs.Prelude.{◌≡◌, true, ◌&&◌, ◌+◌, ◌≤◌, ltb, map};
+ghost use Rattle.std.specs.List.{list_all};
 ghost use Rattle.std.specs.Option.{unwrap_or};
 ghost use Rattle.fields.specs.Lists.{pick, series};
 ghost use Rattle.rules.specs.Records.{same_identifier};
 ghost use Rattle.rules.specs.Block.{slot_count, slot_numbered, slot_at, used};
-ghost use Rattle.rules.specs.Questions.{record_at, live, begins_by, changes_by, has_transition, question13, question14, must_leave};
+ghost use Rattle.rules.specs.Questions.{record_at, live, range_of, creation_head, begins_by, changes_by, has_transition, question13, question14, must_leave};
 ghost use Rattle.rules.specs.Minutes.{question17};
 ghost use Rattle.rules.specs.After.{one_stop_one_levelled, warns_overlap, worth};
 ghost use Rattle.rules.specs.Judge.{must};
 ghost use Rattle.levels.specs.Counted.{swept_records};
-ghost use Rattle.judge.specs.Survey.{holder_of, slot_answers as answers_of, answers_at, survey_of, free_among};
+ghost use Rattle.judge.specs.Survey.{holder_of, slot_answers as answers_of, used_record, answers_at, survey_of, free_among};
 ghost use Rattle.judge.specs.Decided.{written_by, holder_asked, limits_asked, limits_decided, decision_of};
-ghost use Rattle.judge.specs.Warned.{overlap_at, minute_warnings, warnings_on};
+ghost use Rattle.judge.specs.Warned.{overlaps, overlap_at, minute_warnings, warnings_on};
 
 use block::SLOT_COUNT;
 use levels::{Limits, Swept};
 use quantities::Minute;
 use records::must;
-use report::{Head, Mark, Operation, RecordType};
+use report::{Direction, Head, Mark, Operation, RecordType};
 use rules::{Kind, Record, Refusal, Row, UnitHead};
 
 // What is asked of a slot from question 15 on: does it count beside the report, is its clash with the report closed,
@@ -34,6 +34,15 @@ pub struct SlotAnswers {
     pub cleared: bool,
 }
 
+// Of a slot that no record is in.
+const FREE: SlotAnswers = SlotAnswers {
+    other: false,
+    closed: true,
+    leaves: false,
+    stays: false,
+    cleared: false,
+};
+
 // What an accepted report does: the slots that are cleared, the slot that is written, whether the state changes, and whether some
 // record leaves.
 #[derive(Clone, Copy)]
@@ -44,34 +53,51 @@ pub struct Decision {
     pub left: bool,
 }
 
+// A report on its unit's block, and the heads of both.
+#[derive(Clone, Copy)]
+struct Judged<'a> {
+    block: &'a [u8],
+    report: &'a [u8],
+    head: Head,
+    unit: UnitHead,
+}
+
+// A report's head, the slot that holds its identifier, and whether the unit's state changes.
+#[derive(Clone, Copy)]
+struct Placed {
+    head: Head,
+    slot: Option<u8>,
+    changes: bool,
+}
+
 fn record_at(b: &[u8], i: u8) -> Record
     ensures { result ≡ record_at b.now i }
 {
     block::record_in(block::slot_at(b, i))
 }
 
+// The record in slot i, if the slot is used.
+#[tactic(auto, unfolding(crate::specs::Survey::used_record, fields::specs::Lists::pick))]
+fn used_record(b: &[u8], i: u8) -> Option<Record>
+    ensures { result ≡ used_record b.now i }
+{
+    let z = block::slot_at(b, i);
+    block::is_used(z).then(|| block::record_in(z))
+}
+
 // Slot i is live and has the record's identifier.
+#[tactic(auto, unfolding(crate::specs::Survey::used_record, rules::specs::Questions::live, fields::specs::Lists::pick))]
 fn holds(b: &[u8], r: Record, i: u8) -> bool
     ensures { result ≡ (live b.now r.stamp.0 i && same_identifier r (record_at b.now i)) }
 {
-    let z = block::slot_at(b, i);
-    if !block::is_used(z) {
-        return false;
-    }
-    let x = block::record_in(z);
-    (r.stamp.0 < x.period.end.0) & records::same_identifier(r, x)
+    used_record(b, i).is_some_and(|x| (r.stamp < x.period.end) & records::same_identifier(r, x))
 }
 
 // The live slot that has the record's identifier.
 fn find_holder(b: &[u8], r: Record) -> Option<u8>
     ensures { result ≡ slot_numbered (holder_of b.now r) }
 {
-    for i in 0..SLOT_COUNT {
-        if holds(b, r, i) {
-            return Some(i);
-        }
-    }
-    None
+    (0..SLOT_COUNT).find(|i| holds(b, r, *i))
 }
 
 // The record in a slot; where there is none, what is read past the last slot, which is all zeros.
@@ -98,9 +124,9 @@ fn may_move(h: Head, held: Record) -> bool
 {
     (h.operation == Operation::CREATE)
         | records::choose(
-            held.start_mark == Mark::EXECUTED,
+            records::has_begun(held),
             (h.operation == Operation::CHANGE)
-                & (h.period.start.0 == held.period.start.0)
+                & (h.period.start == held.period.start)
                 & (h.start_mark == Mark::EXECUTED),
             !records::ends_early(h),
         )
@@ -119,13 +145,19 @@ fn ask_holder(last: Minute, h: Head, is_held: bool, held: Record) -> Result<(), 
     must(h, 14, may_move(h, held))
 }
 
+// A creation of types 1 to 5.
+fn creates_record(h: Head) -> bool
+    ensures { result ≡ creation_head h }
+{
+    (h.operation == Operation::CREATE) & !(h.record_type == RecordType::EVENT)
+}
+
 fn begins(h: Head, held: Record) -> bool
     ensures { result ≡ begins_by h held }
 {
-    (h.start_mark == Mark::EXECUTED)
-        & ((h.record_type == RecordType::STOP) | (h.record_type == RecordType::OFF_GRID))
+    records::holds_state(records::record_by(h))
         & ((h.operation == Operation::CREATE)
-            | ((h.operation == Operation::CHANGE) & !(held.start_mark == Mark::EXECUTED)))
+            | ((h.operation == Operation::CHANGE) & !records::has_begun(held)))
 }
 
 fn changes_state(kind: Kind, h: Head, held: Record) -> bool
@@ -134,76 +166,74 @@ fn changes_state(kind: Kind, h: Head, held: Record) -> bool
     (kind == Kind::W1) & ((h.record_type == RecordType::EVENT) | begins(h, held))
 }
 
-fn must_leave(h: Head, changes: bool, x: Record) -> bool
-    ensures { result ≡ must_leave h changes x }
-{
-    let r = records::record_by(h);
-    (!(h.operation == Operation::WITHDRAW)
-        & records::records_clash(r, x)
-        & records::record_closes(r, x))
-        | (changes & records::holds_state(x))
-}
-
-fn slot_answers(
-    h: Head,
-    slot: Option<u8>,
-    changes: bool,
-    is_live: bool,
-    x: Record,
-    i: u8,
-) -> SlotAnswers
-    ensures { result ≡ answers_of h slot changes true is_live x i }
-{
-    let r = records::record_by(h);
-    let other = is_live & !((h.operation == Operation::CHANGE) & (Some(i) == slot));
-    let closed = !(other & records::records_clash(r, x)) | records::record_closes(r, x);
-    let leaves = other & must_leave(h, changes, x);
-    let stays = is_live & !leaves & !(records::vacates_slot(h) & (Some(i) == slot));
-    SlotAnswers {
-        other,
-        closed,
-        leaves,
-        stays,
-        cleared: !stays,
+impl Placed {
+    fn must_leave(self, x: Record) -> bool
+        ensures { result ≡ must_leave self.head self.changes x }
+    {
+        let r = records::record_by(self.head);
+        (!(self.head.operation == Operation::WITHDRAW)
+            & records::records_clash(r, x)
+            & records::record_closes(r, x))
+            | (self.changes & records::holds_state(x))
     }
-}
 
-fn answers_at(b: &[u8], h: Head, slot: Option<u8>, changes: bool, i: u8) -> SlotAnswers
-    ensures { result ≡ answers_at b.now h slot changes i }
-{
-    let z = block::slot_at(b, i);
-    if !block::is_used(z) {
-        return SlotAnswers {
-            other: false,
-            closed: true,
-            leaves: false,
-            stays: false,
-            cleared: false,
-        };
+    // Of slot i with record x.
+    #[tactic(auto, unfolding(crate::specs::Survey::slot_answers))]
+    fn slot_answers(self, x: Record, i: u8) -> SlotAnswers
+        ensures { result ≡ answers_of self.head self.slot self.changes true (ltb self.head.stamp.0 x.period.end.0) x i }
+    {
+        let r = records::record_by(self.head);
+        let is_live = self.head.stamp < x.period.end;
+        let is_holder = Some(i) == self.slot;
+        let other = is_live & !((self.head.operation == Operation::CHANGE) & is_holder);
+        let closed = !(other & records::records_clash(r, x)) | records::record_closes(r, x);
+        let leaves = other & self.must_leave(x);
+        let stays = is_live & !leaves & !(records::vacates_slot(self.head) & is_holder);
+        SlotAnswers {
+            other,
+            closed,
+            leaves,
+            stays,
+            cleared: !stays,
+        }
     }
-    let x = block::record_in(z);
-    slot_answers(h, slot, changes, h.stamp.0 < x.period.end.0, x, i)
-}
 
-fn survey_slots(b: &[u8], h: Head, slot: Option<u8>, changes: bool) -> [SlotAnswers; 8]
-    ensures { result ≡ survey_of b.now h slot changes }
-{
-    std::array::from_fn(|i: usize| answers_at(b, h, slot, changes, i as u8))
+    #[tactic(auto, unfolding(crate::specs::Survey::used_record, crate::specs::Survey::answers_at, crate::specs::Survey::slot_answers, rules::specs::Questions::live, fields::specs::Lists::pick))]
+    fn answers_at(self, b: &[u8], i: u8) -> SlotAnswers
+        ensures { result ≡ answers_at b.now self.head self.slot self.changes i }
+    {
+        match used_record(b, i) {
+            Some(x) => self.slot_answers(x, i),
+            None => FREE,
+        }
+    }
+
+    fn survey_slots(self, b: &[u8]) -> [SlotAnswers; 8]
+        ensures { result ≡ survey_of b.now self.head self.slot self.changes }
+    {
+        std::array::from_fn(|i: usize| self.answers_at(b, i as u8))
+    }
+
+    // The slot that an accepted report writes.
+    #[tactic(auto, unfolding(crate::specs::Decided::written_by, fields::specs::Lists::pick))]
+    fn slot_written(self, free: Option<u8>) -> Option<u8>
+        ensures { result ≡ written_by self.head self.slot free }
+    {
+        if creates_record(self.head) {
+            free
+        } else if (self.head.operation == Operation::CHANGE) & !records::ends_early(self.head) {
+            self.slot
+        } else {
+            None
+        }
+    }
 }
 
 // The lowest slot that does not keep its record.
-fn lowest_free(slots: [SlotAnswers; 8]) -> Option<usize>
-    ensures { result ≡ free_among slots }
-{
-    slots.iter().position(|a| !a.stays)
-}
-
-// The same, as slots are numbered.
 fn free_slot(slots: [SlotAnswers; 8]) -> Option<u8>
     ensures { result ≡ free_among slots }
 {
-    let i = lowest_free(slots)?;
-    Some(i as u8)
+    slots.iter().position(|a| !a.stays).map(|i| i as u8)
 }
 
 #[tactic(auto, unfolding(fields::specs::Lists::pick))]
@@ -213,48 +243,6 @@ fn has_transition(row: Row, h: Head) -> bool
     row::transition(row, h).is_some()
 }
 
-// Question 17, where it is asked.
-fn minutes_fit(
-    b: &[u8],
-    report: &[u8],
-    h: Head,
-    unit: UnitHead,
-    others: [bool; 8],
-    is_asked: bool,
-) -> bool
-    ensures { result ≡ pick is_asked (question17 unit.kind.0 unit.powers (swept_records b.now report.now others true) h) true }
-{
-    if !is_asked {
-        return true;
-    }
-    if !records::is_levelled(h.record_type) {
-        return true;
-    }
-    let swept = Swept {
-        counted: others,
-        with_report: true,
-    };
-    let limits = Limits {
-        kind: unit.kind,
-        range: records::range_of(unit.powers, h.direction),
-    };
-    levels::fits(b, report, swept, h.direction, h.period, limits)
-}
-
-// The slot that an accepted report writes.
-#[tactic(auto, unfolding(crate::specs::Decided::written_by, fields::specs::Lists::pick))]
-fn slot_written(h: Head, slot: Option<u8>, free: Option<u8>) -> Option<u8>
-    ensures { result ≡ written_by h slot free }
-{
-    if (h.operation == Operation::CREATE) & !(h.record_type == RecordType::EVENT) {
-        free
-    } else if (h.operation == Operation::CHANGE) & !records::ends_early(h) {
-        slot
-    } else {
-        None
-    }
-}
-
 // Question 15.
 fn all_closed(slots: [SlotAnswers; 8]) -> bool
     ensures { result ≡ list_all (λ a. a.closed) slots }
@@ -262,79 +250,93 @@ fn all_closed(slots: [SlotAnswers; 8]) -> bool
     slots.iter().all(|a| a.closed)
 }
 
-fn some_leave(slots: [SlotAnswers; 8]) -> bool
-    ensures { result ≡ list_any (λ a. a.leaves) slots }
+// What a unit's levels are held against.
+fn limits_of(unit: UnitHead, direction: Direction) -> Limits
+    ensures { result ≡ record { kind = unit.kind; range = range_of unit.powers direction.0 } }
 {
-    slots.iter().any(|a| a.leaves)
+    Limits {
+        kind: unit.kind,
+        range: records::range_of(unit.powers, direction),
+    }
 }
 
-fn others_of(slots: [SlotAnswers; 8]) -> [bool; 8]
-    ensures { result ≡ map (λ a. a.other) slots }
-{
-    slots.map(|a| a.other)
-}
+impl<'a> Judged<'a> {
+    // Question 17.
+    #[tactic(auto, unfolding(rules::specs::Minutes::question17, fields::specs::Lists::pick))]
+    fn minutes_fit(&self, others: [bool; 8]) -> bool
+        ensures { result ≡ question17 self.now.unit.kind.0 self.now.unit.powers (swept_records self.now.block.now self.now.report.now others true) self.now.head }
+    {
+        let h = self.head;
+        if !records::is_levelled(h.record_type) {
+            return true;
+        }
+        let swept = Swept {
+            counted: others,
+            with_report: true,
+        };
+        let limits = limits_of(self.unit, h.direction);
+        levels::fits(
+            self.block,
+            self.report,
+            swept,
+            h.direction,
+            h.period,
+            limits,
+        )
+    }
 
-fn cleared_of(slots: [SlotAnswers; 8]) -> [bool; 8]
-    ensures { result ≡ map (λ a. a.cleared) slots }
-{
-    slots.map(|a| a.cleared)
-}
+    // Question 17; no minute is looked at where it is skipped.
+    #[tactic(auto, unfolding(fields::specs::Lists::pick))]
+    fn ask_minutes(&self, slots: [SlotAnswers; 8]) -> Result<(), Refusal>
+        ensures { result ≡ must self.now.head 17 (question17 self.now.unit.kind.0 self.now.unit.powers (swept_records self.now.block.now self.now.report.now (map (λ a. a.other) slots) true) self.now.head) }
+    {
+        if records::skips_question(self.head, 17) {
+            return Ok(());
+        }
+        must(self.head, 17, self.minutes_fit(slots.map(|a| a.other)))
+    }
 
-// Question 17, which is not asked where it is skipped.
-fn ask_minutes(
-    b: &[u8],
-    report: &[u8],
-    h: Head,
-    unit: UnitHead,
-    others: [bool; 8],
-) -> Result<(), Refusal>
-    ensures { result ≡ must h 17 (question17 unit.kind.0 unit.powers (swept_records b.now report.now others true) h) }
-{
-    let is_asked = !records::skips_question(h, 17);
-    must(h, 17, minutes_fit(b, report, h, unit, others, is_asked))
-}
+    // Questions 15 to 19.
+    #[tactic(auto, unfolding(crate::specs::Decided::limits_asked))]
+    fn ask_limits(
+        &self,
+        slots: [SlotAnswers; 8],
+        changes: bool,
+        deratings: bool,
+    ) -> Result<(), Refusal>
+        ensures { result ≡ limits_asked self.now.block.now self.now.report.now self.now.head self.now.unit slots changes deratings }
+    {
+        let h = self.head;
+        must(h, 15, all_closed(slots))?;
+        must(h, 16, deratings)?;
+        self.ask_minutes(slots)?;
+        must(h, 18, !changes | has_transition(self.unit.row, h))?;
+        must(h, 19, !creates_record(h) | free_slot(slots).is_some())
+    }
 
-// Questions 15 to 19.
-#[tactic(auto, unfolding(crate::specs::Decided::limits_asked))]
-fn ask_limits(
-    b: &[u8],
-    report: &[u8],
-    h: Head,
-    unit: UnitHead,
-    slots: [SlotAnswers; 8],
-    changes: bool,
-    deratings: bool,
-) -> Result<(), Refusal>
-    ensures { result ≡ limits_asked b.now report.now h unit slots changes deratings }
-{
-    let creates = (h.operation == Operation::CREATE) & !(h.record_type == RecordType::EVENT);
-    must(h, 15, all_closed(slots))?;
-    must(h, 16, deratings)?;
-    ask_minutes(b, report, h, unit, others_of(slots))?;
-    must(h, 18, !changes | has_transition(unit.row, h))?;
-    must(h, 19, !creates | free_slot(slots).is_some())
-}
-
-// Questions 15 to 19, and what an accepted report does.
-fn decide_limits(
-    b: &[u8],
-    report: &[u8],
-    h: Head,
-    unit: UnitHead,
-    slot: Option<u8>,
-    changes: bool,
-    deratings: bool,
-) -> Result<Decision, Refusal>
-    ensures { result ≡ limits_decided b.now report.now h unit slot changes deratings }
-{
-    let slots = survey_slots(b, h, slot, changes);
-    ask_limits(b, report, h, unit, slots, changes, deratings)?;
-    Ok(Decision {
-        cleared: cleared_of(slots),
-        written: slot_written(h, slot, free_slot(slots)),
-        changes,
-        left: some_leave(slots),
-    })
+    // Questions 15 to 19, and what an accepted report does.
+    fn decide_limits(
+        &self,
+        slot: Option<u8>,
+        changes: bool,
+        deratings: bool,
+    ) -> Result<Decision, Refusal>
+        ensures { result ≡ limits_decided self.now.block.now self.now.report.now self.now.head self.now.unit slot changes deratings }
+    {
+        let placed = Placed {
+            head: self.head,
+            slot,
+            changes,
+        };
+        let slots = placed.survey_slots(self.block);
+        self.ask_limits(slots, changes, deratings)?;
+        Ok(Decision {
+            cleared: slots.map(|a| a.cleared),
+            written: placed.slot_written(free_slot(slots)),
+            changes,
+            left: slots.iter().any(|a| a.leaves),
+        })
+    }
 }
 
 // The first "no" of questions 4 to 19, or what an accepted report does to the slots.
@@ -349,7 +351,13 @@ pub fn decide(b: &[u8], report: &[u8]) -> Result<Decision, Refusal>
     let held = held_record(b, slot);
     ask_holder(unit.last_stamp, h, slot.is_some(), held)?;
     let changes = changes_state(unit.kind, h, held);
-    decide_limits(b, report, h, unit, slot, changes, validated.deratings)
+    let judged = Judged {
+        block: b,
+        report,
+        head: h,
+        unit,
+    };
+    judged.decide_limits(slot, changes, validated.deratings)
 }
 
 fn one_stop_one_levelled(x: Record, y: Record) -> bool
@@ -361,39 +369,34 @@ fn one_stop_one_levelled(x: Record, y: Record) -> bool
         | ((x.record_type == RecordType::STOP) & y_levelled)
 }
 
-// Warning 1, of slot i.
-fn overlaps_at(after: &[u8], r: Record, i: u8) -> bool
-    ensures { result ≡ overlap_at after.now r i }
+// Warning 1, of a record in a slot.
+fn overlaps(r: Record, x: Record) -> bool
+    ensures { result ≡ overlaps r x }
 {
-    let z = block::slot_at(after, i);
-    if !block::is_used(z) {
-        return false;
-    }
-    let x = block::record_in(z);
     one_stop_one_levelled(r, x)
         & records::directions_meet(r.direction, x.direction)
         & quantities::overlapping(r.period, x.period)
+}
+
+// Warning 1, of slot i.
+#[tactic(auto, unfolding(crate::specs::Survey::used_record, fields::specs::Lists::pick))]
+fn overlaps_at(after: &[u8], r: Record, i: u8) -> bool
+    ensures { result ≡ overlap_at after.now r i }
+{
+    used_record(after, i).is_some_and(|x| overlaps(r, x))
 }
 
 fn warns_overlap(after: &[u8], h: Head) -> bool
     ensures { result ≡ warns_overlap after.now h }
 {
     let r = records::record_by(h);
-    let mut none = true;
-    for i in 0..SLOT_COUNT {
-        none = none & !overlaps_at(after, r, i);
-    }
-    !none
+    (0..SLOT_COUNT).any(|i| overlaps_at(after, r, i))
 }
 
 fn used_slots(b: &[u8]) -> [bool; 8]
     ensures { result ≡ series (λ i. used (slot_at b.now i)) 0 slot_count }
 {
-    let mut flags = [false; 8];
-    for i in 0..SLOT_COUNT {
-        flags[i as usize] = block::is_used(block::slot_at(b, i));
-    }
-    flags
+    std::array::from_fn(|i: usize| block::is_used(block::slot_at(b, i as u8)))
 }
 
 fn worth_of(n: u8, t: bool) -> u8
@@ -411,10 +414,7 @@ fn minute_warnings(after: &[u8], h: Head) -> u8
     }
     let counted = used_slots(after);
     let unit = block::unit_head(after);
-    let limits = Limits {
-        kind: unit.kind,
-        range: records::range_of(unit.powers, h.direction),
-    };
+    let limits = limits_of(unit, h.direction);
     let g = levels::warn(after, counted, h.direction, h.period, limits);
     worth_of(2, g.above) + worth_of(4, g.below)
 }

@@ -1,80 +1,40 @@
 -- Where the extremes of the lanes fit, every minute does. Assumes nothing.
-use Prim.Native.Nat.{ℕ, zero, suc, ◌+◌, ◌-◌, ◌≤◌, ◌<◌}
-use mathlib.Core.Path.{◌≡◌, refl, ap, sym, ◌∙◌, subst}
+use Prim.Native.Nat.{ℕ, ◌+◌, ◌-◌, ◌≤◌, ◌<◌}
+use mathlib.Core.Path.{◌≡◌, refl, ap, sym, ◌∙◌}
 use mathlib.Core.Bool.{Bool, true, false, not, ◌||◌, false≢true}
 use mathlib.Core.List.{List}
 use native.Mathlib.Omega.{arith}
-use lib.Dec.{leb, ltb, eqb}
-use borrow.Author.Tests.{le-leb, leb-true, eqb-true, eqb-false}
-use Rattle.std.proofs.Common.{Option, Some, None, is_some, min, max}
+use lib.Dec.{leb, eqb}
+use borrow.Author.Tests.{le-leb, leb-true}
+use Rattle.std.proofs.Common.{Option, Some, None, is_some}
 use Rattle.std.proofs.lemmas.Option.{none-some}
-use Rattle.fields.specs.Lists.{pick, series}
-use Rattle.fields.proofs.Bools.{and_left, and_right, and_both, pick-elim}
+use Rattle.fields.specs.Lists.{pick}
+use Rattle.fields.proofs.Bools.{and_left, and_right, and_both}
 use Rattle.fields.proofs.Tests.{all-intro}
 use Rattle.quantities.specs.declared.Kilowatt.{Kilowatt}
+use Rattle.quantities.specs.declared.Minute.{Minute}
 use Rattle.quantities.specs.declared.Period.{Period}
 use Rattle.rules.specs.declared.PowerRange.{PowerRange}
 use Rattle.rules.specs.Codes.{W1, M1, Z1}
 use Rattle.rules.specs.Minutes.{FullRecord, is_none_or, fits_w1_m1, power_of, fits_z1, fits_beside, levels_at, levels_fit, levels_every}
 use Rattle.block.specs.declared.Pair.{Pair}
 use Rattle.levels.specs.declared.Extremes.{Extremes}
-use Rattle.levels.specs.declared.Lane.{Lane}
 use Rattle.levels.specs.declared.Lanes.{Lanes}
 use Rattle.levels.specs.declared.Limits.{Limits}
-use Rattle.levels.specs.Pairs.{level_among_pairs}
-use Rattle.levels.specs.Lanes.{lane_count, lane_pair, lane_levels}
-use Rattle.levels.specs.Extremes.{LaneWithin, Between, Covers, WiderBy, CoversIfSome, CoversType, highest_of, extremes_fit}
-use Rattle.levels.proofs.EachLane.{Seen, seen_none, seen_more, seen-past, seen_all}
+use Rattle.levels.specs.Lanes.{lane_count, lane_levels}
+use Rattle.levels.specs.Extremes.{Between, Covers, with_power, CoversIfSome, CoversType, highest_of, extremes_fit}
+use Rattle.levels.specs.Gathered.{GathersLanes}
+use Rattle.levels.proofs.Gathered.{gathered}
 
--- the pairs of a lane
-pub wider-none : {f : ℕ → Pair} {e : Extremes} → WiderBy f 0 e e
-wider-none = record { old = λ p b. b; new = λ j l. absurd (omega arith) }
+-- the extremes of the lanes of a type
+between-keeps : (e r : Extremes) (p x : Kilowatt) → r ≡ with_power e p → Between e x → Between r x
+between-keeps e r p x is b =
+    let low = b.low in
+    let high = b.high in
+    rw is (record { low = omega arith; high = omega arith })
 
-pub wider-more : {f : ℕ → Pair} {j : ℕ} {seen e : Extremes} {low high power : Kilowatt} → WiderBy f j seen e → power ≡ (f j).power
-    → low.0 ≡ min e.lowest.0 power.0 → high.0 ≡ max e.highest.0 power.0 → WiderBy f (j + 1) seen (record { lowest = low; highest = high })
-wider-more {f} {j} {seen} {e} {low} {high} {power} w read l h = record { old = λ p b. keeps p (w.old p b); new = new } where
-  r : Extremes
-  r = record { lowest = low; highest = high }
-
-  keeps : (p : Kilowatt) → Between e p → Between r p
-  keeps p b =
-      let a = b.low in
-      let o = b.high in
-      record { low = omega arith; high = omega arith }
-
-  new : (i : ℕ) → i < j + 1 → Between r (f i).power
-  new i o = by-case (eqb i j) refl where
-    by-case : (t : Bool) → eqb i j ≡ t → Between r (f i).power
-    by-case true t =
-        let same : (f i).power.0 ≡ power.0 = ap (λ (i : ℕ). (f i).power.0) (eqb-true i j t) ∙ sym
-        (ap (λ (p : Kilowatt). p.0) read) in
-        record { low = omega arith; high = omega arith }
-    by-case false t =
-        let ne = eqb-false i j t in
-        keeps _ (w.new i (omega arith))
-
-pub wider-all : {f : ℕ → Pair} {n j : ℕ} {seen e : Extremes} → (j ≤ n) × WiderBy f j seen e → n ≤ j → WiderBy f n seen e
-wider-all {f} {n} {j} {seen} {e} w l =
-    let most = w.0 in
-    let same : j ≡ n = omega arith in
-    subst (λ (j : ℕ). WiderBy f j seen e) same w.1
-
-among-covers : (f : ℕ → Pair) (e : Extremes) (i n k : ℕ) → ((j : ℕ) → i ≤ j → j < i + n → Between e (f j).power)
-    → Covers e (level_among_pairs (series f i n) k)
-unfolding level_among_pairs series
-among-covers f e i zero k h = tt
-among-covers f e i (suc n) k h =
-    pick-elim (λ (v : Option Kilowatt). Covers e v) (ltb k (f i).end.0)
-    (λ t. h i (omega arith) (omega arith))
-    (λ t. among-covers f e (i + 1) n k (λ j a b. h j (omega arith) (omega arith)))
-
--- the lanes of a type
-abbrev pub covering : Extremes → ℕ → Option Kilowatt → Type 0
-covering e k l = Covers e l
-
-wider-covers : {f : ℕ → Pair} {n : ℕ} {e r : Extremes} → WiderBy f n e r → (l : Option Kilowatt) → Covers e l → Covers r l
-wider-covers w None c = tt
-wider-covers w (Some p) c = w.old p c
+between-adds : (e r : Extremes) (p : Kilowatt) → r ≡ with_power e p → Between r p
+between-adds e r p is = rw is (record { low = omega arith; high = omega arith })
 
 -- nothing lies between a lowest power that is above the highest one
 none-between : (e : Extremes) → e.highest.0 < e.lowest.0 → (l : Option Kilowatt) → Covers e l → l ≡ None
@@ -84,29 +44,18 @@ none-between e o (Some p) c =
     let b = c.high in
     absurd (omega arith)
 
-module _ (ls : Lanes) (type : ℕ) (period : Period) where
-  abbrev pub SeenExtremes : ℕ → Extremes → Type 0
-  SeenExtremes = Seen covering (λ e k. tt) ls type period
+module _ (ls : Lanes) (type : ℕ) (period : Period) {step : Extremes → Minute → Pair → Extremes → Type 0}
+    (is : (e : Extremes) (from : Minute) (p : Pair) (r : Extremes) → step e from p r → r ≡ with_power e p.power)
+    (e r : Extremes) (g : GathersLanes step ls type period 0 lane_count e r)
+  where
+    pub extremes-some : CoversType ls type period (Some r)
+    extremes-some = record {
+      covers = gathered (λ e k x. Between e x) (λ e from p r s k x b. between-keeps e r p.power x (is e from p r s) b)
+          (λ e from p r s k a o. between-adds e r p.power (is e from p r s)) ls type period e r g;
+    }
 
-  pub extremes-none : {e : Extremes} → SeenExtremes 0 e
-  extremes-none = seen_none covering (λ e k. tt) ls type period
-
-  module _ {i : ℕ} {e : Extremes} (h : SeenExtremes i e) (l : i < lane_count) where
-    pub extremes-past : LaneWithin ls i type period None → SeenExtremes (i + 1) e
-    extremes-past q = seen-past covering (λ e k. tt) ls type period h l q
-
-    pub extremes-more : {lane : Lane} {f : ℕ → Pair} {r : Extremes} → LaneWithin ls i type period (Some lane) → f ≡ lane_pair ls i
-        → WiderBy f lane.count e r → SeenExtremes (i + 1) r
-    extremes-more {lane} {f} {r} here read w =
-        seen_more covering (λ e k. tt) ls type period h l here read (record { keeps = λ k v c. wider-covers w v c })
-        (λ k x. among-covers f r 0 lane.count k (λ j a o. w.new j (omega arith)))
-
-  module _ {i : ℕ} {e : Extremes} (h : SeenExtremes i e) (l : lane_count ≤ i) where
-    pub extremes-some : CoversType ls type period (Some e)
-    extremes-some = record { covers = seen_all covering (λ e k. tt) ls type period h l }
-
-    pub extremes_no : e.highest.0 < e.lowest.0 → CoversType ls type period None
-    extremes_no o = record { covers = λ k x y. none-between e o _ (seen_all covering (λ e k. tt) ls type period h l k x y) }
+    pub extremes_no : r.highest.0 < r.lowest.0 → CoversType ls type period None
+    extremes_no o = record { covers = λ k x y. none-between r o _ (extremes-some.covers k x y) }
 
 -- what fits beside the highest deratings fits beside those of a minute
 is-none-or-some : (p : Option Kilowatt) (e : Option Extremes) (test less : ℕ → Bool) → CoversIfSome e p

@@ -44,13 +44,16 @@ slot-pairs z i (suc n) m start =
     let a : pair_start i + 8 ≡ pair_start (i + 1) = omega arith in
     rw (a, slot-pairs z (i + 1) n m)
 
--- the lane of a record that counts, where its direction is asked
-lane-level : (t : Bool) (r : Record) (ps : List Part) (f : ℕ → Pair) (k type direction m : ℕ) → eqb r.direction.0 direction ≡ t
+-- the lane of a record, where its direction is asked
+lane-level : (r : Record) (ps : List Part) (f : ℕ → Pair) (k type direction m : ℕ)
     → level_in ps m ≡ level_among_pairs (series f 0 k) m
-    → level_if_lane (lane_of t r k) f type m ≡ level_of (record { fields = r; parts = ps }) type direction m
+    → level_if_lane (lane_of r k direction) f type m ≡ level_of (record { fields = r; parts = ps }) type direction m
 unfolding lane_level lane_of level_of pick
-lane-level true r ps f k type direction m e p = rw (e, and-true, p)
-lane-level false r ps f k type direction m e p = rw (e, and-false)
+lane-level r ps f k type direction m p = by-case (eqb r.direction.0 direction) refl where
+  by-case : (t : Bool) → eqb r.direction.0 direction ≡ t
+      → level_if_lane (lane_of r k direction) f type m ≡ level_of (record { fields = r; parts = ps }) type direction m
+  by-case true e = rw (e, and-true, p)
+  by-case false e = rw (e, and-false)
 
 module _ (b s : List ℕ) (swept : Swept) (type direction m : ℕ) where
   abbrev lane : ℕ → Option Lane
@@ -59,7 +62,7 @@ module _ (b s : List ℕ) (swept : Swept) (type direction m : ℕ) where
   abbrev counts : ℕ → Bool
   counts i = get_or swept.counted i false
 
-  lane-of-slot : (i : ℕ) → lane (i + 1) ≡ slot_lane b i (counts i) direction
+  lane-of-slot : (i : ℕ) → lane (i + 1) ≡ pick (counts i) (slot_lane b i direction) None
   unfolding lane_at
   lane-of-slot i = ap lane (add-one i)
 
@@ -68,13 +71,13 @@ module _ (b s : List ℕ) (swept : Swept) (type direction m : ℕ) where
   pairs-of-slot i = ap (lane_pairs b s) (add-one i)
 
   slots-lanes : (i n : ℕ) → level_among_lanes lane (lane_pairs b s) type (i + 1) n m ≡ level_among (records_among b counts i n) type direction m
-  unfolding level_among_lanes level_among records_among slot_lane lane_of pick
+  unfolding level_among_lanes level_among records_among pick
   slots-lanes i zero = refl
   slots-lanes i (suc n) = rw (lane-of-slot i, pairs-of-slot i, slots-lanes (i + 1) n) (by-case (counts i)) where
     rest : List FullRecord
     rest = records_among b counts (i + 1) n
 
-    by-case : (t : Bool) → option_or (level_if_lane (slot_lane b i t direction) (pair_at (slot_at b i)) type m)
+    by-case : (t : Bool) → option_or (level_if_lane (pick t (slot_lane b i direction) None) (pair_at (slot_at b i)) type m)
         (level_among rest type direction m) ≡ level_among (pick t (record {
           fields = record_at b i;
           parts = parts_in
@@ -82,24 +85,24 @@ module _ (b s : List ℕ) (swept : Swept) (type direction m : ℕ) where
         } ∷ rest) rest) type direction m
     by-case true =
         ap (λ (v : Option Kilowatt). option_or v (level_among rest type direction m))
-        (lane-level (eqb (record_at b i).direction.0 direction) (record_at b i) (parts_in (slot_at b i)) _ (stored_count
-        (slot_at b i)) type direction m refl
+        (lane-level (record_at b i) (parts_in (slot_at b i)) _ (stored_count
+        (slot_at b i)) type direction m
         (slot-pairs (slot_at b i) 0 (stored_count (slot_at b i)) m (record_at b i).period.start))
     by-case false = refl
 
   lanes-level : level_among_lanes lane (lane_pairs b s) type 0 lane_count m ≡ level_among (swept_records b s swept.counted
       swept.with_report) type direction m
-  unfolding level_among_lanes level_among swept_records lane_at lane_pairs report_lane lane_of pick
+  unfolding level_among_lanes level_among swept_records lane_at lane_pairs pick
   lanes-level = rw (slots-lanes 0 8) (by-case swept.with_report) where
     slots : List FullRecord
     slots = records_among b counts 0 8
 
-    by-case : (t : Bool) → option_or (level_if_lane (report_lane s t direction) (report_pair s) type m)
+    by-case : (t : Bool) → option_or (level_if_lane (pick t (report_lane s direction) None) (report_pair s) type m)
         (level_among slots type direction m) ≡ level_among (pick t (record
         { fields = record_of s; parts = parts_of s } ∷ slots) slots) type direction m
     by-case true =
         ap (λ (v : Option Kilowatt). option_or v (level_among slots type direction m))
-        (lane-level (eqb (record_of s).direction.0 direction) (record_of s) (parts_of s) _ (part_count_of s) type direction m refl
+        (lane-level (record_of s) (parts_of s) _ (part_count_of s) type direction m
         (report-pairs s 0 (part_count_of s) m))
     by-case false = refl
 
@@ -127,17 +130,17 @@ records-levels ls swept direction e m =
     rw (same 4, same 2, same 3)
 
 -- lane i as it is read
-module _ (b s : List ℕ) (swept : Swept) (direction : ℕ) {i : ℕ} where
-  pub first_lane : {l : Option Lane} → i ≡ 0 → l ≡ report_lane s swept.with_report direction → l ≡ lane_at b s swept direction i
+module _ (b s : List ℕ) (swept : Swept) (direction : ℕ) {i : ℕ} {l : Option Lane} where
+  pub first_lane : i ≡ 0 → l ≡ pick swept.with_report (report_lane s direction) None → l ≡ lane_at b s swept direction i
   unfolding lane_at
   first_lane e q = q ∙ ap (lane_at b s swept direction) (sym e)
 
-  pub next-lane : {l : Option Lane} {t : Bool} → (i ≡ 0 → ⊥) → t ≡ get_or swept.counted (i - 1) false
-      → l ≡ slot_lane b (i - 1) t direction → l ≡ lane_at b s swept direction i
+  pub next-lane : (i ≡ 0 → ⊥) → l ≡ pick (get_or swept.counted (i - 1) false) (slot_lane b (i - 1) direction) None
+      → l ≡ lane_at b s swept direction i
   unfolding lane_at
-  next-lane ne c q =
+  next-lane ne q =
       let e : suc (i - 1) ≡ i = omega arith in
-      q ∙ rw c (ap (lane_at b s swept direction) e)
+      q ∙ ap (lane_at b s swept direction) e
 
 -- its pairs
 module _ (b s : List ℕ) {i : ℕ} where

@@ -1,6 +1,9 @@
 pub mod Spans
 pub mod Parts
+pub mod Ranges
+pub mod Made
 pub mod EachLane
+pub mod Gathered
 pub mod Bounds
 pub mod Turns
 pub mod Asked

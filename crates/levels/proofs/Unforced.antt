@@ -1,5 +1,5 @@
 -- Where no record that counts is forced work, or none is a derating, every minute fits. Assumes nothing.
-use Prim.Native.Nat.{ℕ, zero, suc, ◌+◌, ◌-◌, ◌≤◌, ◌<◌}
+use Prim.Native.Nat.{ℕ, zero, suc, ◌+◌, ◌-◌}
 use mathlib.Core.Path.{◌≡◌, refl, ap, sym, ◌∙◌}
 use mathlib.Core.Bool.{Bool, true, false, not, ◌&&◌, ◌||◌, false≢true}
 use mathlib.Core.List.{List, ◌∷◌}
@@ -10,18 +10,15 @@ use Rattle.std.proofs.Common.{Option, Some, None}
 use Rattle.quantities.specs.declared.Kilowatt.{Kilowatt}
 use Rattle.fields.specs.Lists.{pick, all, series}
 use Rattle.fields.proofs.Bools.{and_left, and_right}
-use Rattle.fields.proofs.Tests.{Tested, tested-more, tested-all, all-intro}
-use Rattle.report.specs.declared.Head.{Head}
-use Rattle.report.specs.Report.{head_of}
+use Rattle.fields.proofs.Tests.{all-intro}
 use Rattle.rules.specs.declared.PowerRange.{PowerRange}
-use Rattle.rules.specs.declared.Record.{Record}
 use Rattle.rules.specs.Codes.{W1, M1, Z1, positive_derating, negative_derating, forced_work}
-use Rattle.rules.specs.Block.{slot_count, slot_at, record_in}
+use Rattle.rules.specs.Block.{slot_count}
 use Rattle.rules.specs.Questions.{record_of, record_at}
 use Rattle.rules.specs.Minutes.{FullRecord, level_of, level_among, records_among, levels_at, levels_fit, levels_every}
-use Rattle.levels.specs.declared.CountedTypes.{CountedTypes}
+use Rattle.levels.specs.declared.Swept.{Swept}
 use Rattle.levels.specs.Counted.{report_record, slot_record, counted_records, swept_records}
-use Rattle.levels.specs.Extremes.{type_at, some_of_type, counted_types, types_meet}
+use Rattle.levels.specs.Extremes.{type_at, some_of_type, type_counts, types_meet}
 
 -- a record of another type has no level of this one
 other-type : (type : ℕ) (w : FullRecord) (ws : List FullRecord) (direction m : ℕ) → eqb w.fields.record_type.0 type ≡ false
@@ -64,68 +61,54 @@ neither true c e = absurd (false≢true (sym e))
 neither false c e = (refl, e)
 
 -- the report's record and the slots'
-module _ (b s : List ℕ) (counted : List Bool) (with-report : Bool) where
-  abbrev swept_of : ℕ → Bool
-  swept_of type = some_of_type b counted type || with-report && eqb (record_of s).record_type.0 type
+module _ (b s : List ℕ) (swept : Swept) where
+  abbrev records : List FullRecord
+  records = swept_records b s swept.counted swept.with_report
 
-  none-swept : (type direction m : ℕ) → swept_of type ≡ false
-      → level_among (swept_records b s counted with-report) type direction m ≡ None
+  abbrev counts : ℕ → Bool
+  counts type = type_counts b s swept type
+
+  none-swept : (type direction m : ℕ) → counts type ≡ false → level_among records type direction m ≡ None
   unfolding swept_records some_of_type pick
   none-swept type direction m e =
-      by-case with-report (eqb (record_of s).record_type.0 type) refl refl (neither (some_of_type b counted type) _ e).1
+      by-case swept.with_report (eqb (record_of s).record_type.0 type) refl refl neither-counts.0
     where
-      slots : level_among (counted_records b counted) type direction m ≡ None
-      slots = none-among b counted type direction m 0 slot_count (not-false _ (neither (some_of_type b counted type) _ e).0)
+      neither-counts : ((swept.with_report && eqb (record_of s).record_type.0 type) ≡ false) × (some_of_type b swept.counted type ≡ false)
+      neither-counts = neither (swept.with_report && eqb (record_of s).record_type.0 type) (some_of_type b swept.counted type) e
 
-      by-case : (w f : Bool) → with-report ≡ w → eqb (record_of s).record_type.0 type ≡ f → (w && f) ≡ false
-          → level_among (swept_records b s counted with-report) type direction m ≡ None
+      slots : level_among (counted_records b swept.counted) type direction m ≡ None
+      slots = none-among b swept.counted type direction m 0 slot_count (not-false _ neither-counts.1)
+
+      by-case : (w f : Bool) → swept.with_report ≡ w → eqb (record_of s).record_type.0 type ≡ f → (w && f) ≡ false
+          → level_among records type direction m ≡ None
       by-case false f p q t = rw p slots
-      by-case true false p q t = rw p (other-type type (report_record s) (counted_records b counted) direction m q ∙ slots)
+      by-case true false p q t = rw p (other-type type (report_record s) (counted_records b swept.counted) direction m q ∙ slots)
       by-case true true p q t = absurd (false≢true (sym t))
 
   module _ (kind : ℕ) (range : PowerRange) (direction start end : ℕ) where
-    every : ((m : ℕ) → levels_fit kind range (levels_at (swept_records b s counted with-report) direction m) ≡ true)
-        → true ≡ levels_every (levels_fit kind range) (swept_records b s counted with-report) direction start end
+    every : ((m : ℕ) → levels_fit kind range (levels_at records direction m) ≡ true)
+        → true ≡ levels_every (levels_fit kind range) records direction start end
     unfolding levels_every
     every h =
-        sym (all-intro (λ m. levels_fit kind range (levels_at (swept_records b s counted with-report) direction m)) (λ m. m) start
-        (end - start) (λ m a o. h m))
+        sym (all-intro (λ m. levels_fit kind range (levels_at records direction m)) (λ m. m) start (end - start) (λ m a o. h m))
 
-    unforced : swept_of forced_work ≡ false → (m : ℕ)
-        → levels_fit kind range (levels_at (swept_records b s counted with-report) direction m) ≡ true
+    unforced : counts forced_work ≡ false → (m : ℕ) → levels_fit kind range (levels_at records direction m) ≡ true
     unfolding levels_at levels_fit
     unforced e m = rw (none-swept forced_work direction m e)
 
-    underated : swept_of positive_derating ≡ false → swept_of negative_derating ≡ false → (m : ℕ)
-        → levels_fit kind range (levels_at (swept_records b s counted with-report) direction m) ≡ true
+    underated : counts positive_derating ≡ false → counts negative_derating ≡ false → (m : ℕ)
+        → levels_fit kind range (levels_at records direction m) ≡ true
     unfolding levels_at
     underated e f m =
         rw (none-swept positive_derating direction m e, none-swept negative_derating direction m f) (alone_fits kind range _)
 
-    pub fits-apart : {h : Head} {types : CountedTypes} {t : Bool} → h ≡ head_of s → types ≡ counted_types b counted
-        → t ≡ types_meet types with-report h.record_type.0 → t ≡ false
-        → true ≡ levels_every (levels_fit kind range) (swept_records b s counted with-report) direction start end
-    fits-apart {h} {types} {t} head asked meet e = by-case (swept_of forced_work) refl where
-      apart : (swept_of forced_work && (swept_of positive_derating || swept_of negative_derating)) ≡ false
-      apart = rw (head, asked) at (sym meet ∙ e)
-
-      by-case : (x : Bool) → swept_of forced_work ≡ x
-          → true ≡ levels_every (levels_fit kind range) (swept_records b s counted with-report) direction start end
+    pub fits-apart : {t : Bool} → t ≡ types_meet b s swept → t ≡ false
+        → true ≡ levels_every (levels_fit kind range) records direction start end
+    unfolding types_meet
+    fits-apart meet e = by-case (counts forced_work) refl where
+      by-case : (x : Bool) → counts forced_work ≡ x → true ≡ levels_every (levels_fit kind range) records direction start end
       by-case false q = every (unforced q)
       by-case true q =
-          let none = sym (ap (λ (v : Bool). v && (swept_of positive_derating || swept_of negative_derating)) q) ∙ apart in
-          let both = neither (swept_of positive_derating) (swept_of negative_derating) none in
+          let none = sym (ap (λ (v : Bool). v && (counts positive_derating || counts negative_derating)) q) ∙ sym meet ∙ e in
+          let both = neither (counts positive_derating) (counts negative_derating) none in
           every (underated both.0 both.1)
-
--- the loop over the slots
-module _ (b : List ℕ) (counted : List Bool) (type : ℕ) where
-  abbrev pub OfType : Bool → ℕ → Type 0
-  OfType none i = Tested (λ i. not (type_at b counted type i)) (λ i. i) slot_count none i
-
-  pub type-tested : {i : ℕ} {none : Bool} {z : List ℕ} {r : Record} → OfType none i → i < slot_count → z ≡ slot_at b i
-      → r ≡ record_in z → OfType (none && not (get_or counted i false && eqb r.record_type.0 type)) (i + 1)
-  type-tested t l e q = tested-more t l (rw (q, e))
-
-  pub type-found : {i : ℕ} {none : Bool} → OfType none i → slot_count ≤ i → not none ≡ some_of_type b counted type
-  unfolding some_of_type
-  type-found t l = ap not (tested-all t l)

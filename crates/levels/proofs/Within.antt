@@ -1,5 +1,5 @@
 -- Where every forced level is within its limits, no minute is warned of. Assumes nothing.
-use Prim.Native.Nat.{ℕ, zero, suc, ◌+◌, ◌-◌, ◌≤◌, ◌<◌}
+use Prim.Native.Nat.{ℕ, zero, suc, ◌+◌, ◌-◌}
 use mathlib.Core.Path.{◌≡◌, refl, ap, sym, ◌∙◌, subst}
 use mathlib.Core.Bool.{Bool, true, false, not, ◌&&◌, ◌||◌, and-false}
 use mathlib.Core.List.{List}
@@ -12,12 +12,12 @@ use Rattle.std.specs.Option.{option_or}
 use Rattle.quantities.specs.declared.Kilowatt.{Kilowatt}
 use Rattle.fields.specs.Lists.{all, series}
 use Rattle.fields.proofs.Bools.{and_left, and_right, pick-elim}
-use Rattle.fields.proofs.Tests.{all-intro, Tested, tested-more, tested-all}
+use Rattle.fields.proofs.Tests.{all-intro}
 use Rattle.quantities.specs.declared.Minute.{Minute}
 use Rattle.rules.specs.declared.Levels.{Levels}
 use Rattle.rules.specs.declared.Record.{Record}
 use Rattle.rules.specs.Codes.{forced_work}
-use Rattle.rules.specs.Block.{pair_start, slot_at, record_in, stored_count, pairs_from}
+use Rattle.rules.specs.Block.{pair_start, slot_at, stored_count, pairs_from}
 use Rattle.rules.specs.Questions.{record_at}
 use Rattle.rules.specs.Minutes.{is_none_or, is_some_and, is_high, is_low, level_in, FullRecord, level_of, level_among, records_among, levels_at, some_minute, above_max, below_min, levels_some}
 use Rattle.block.specs.declared.Pair.{Pair}
@@ -50,7 +50,7 @@ module _ (u : Limits) where
       (λ t. subst (λ (at : ℕ). Within (level_in (pairs_from z at n p.end) m)) a rest)
 
   module _ (b : List ℕ) (direction m : ℕ) where
-    slot-quiet : (i : ℕ) → slot_within b i true direction u ≡ true
+    slot-quiet : (i : ℕ) → slot_within b i direction u ≡ true
         → Within (level_of (slot_record b i) forced_work direction m)
     unfolding slot_within pairs_within level_of
     slot-quiet i e =
@@ -78,7 +78,7 @@ module _ (u : Limits) where
 
     module _ (counts : ℕ → Bool) where
       abbrev quiet : ℕ → Bool
-      quiet i = slot_within b i (counts i) direction u
+      quiet i = not (counts i) || slot_within b i direction u
 
       among-quiet : (i n : ℕ) → all quiet (series (λ i. i) i n) ≡ true
           → Within (level_among (records_among b counts i n) forced_work direction m)
@@ -90,9 +90,9 @@ module _ (u : Limits) where
           (λ t. or-within _ _ (slot-quiet i (first t)) rest)
           (λ t. rest)
         where
-          first : counts i ≡ true → slot_within b i true direction u ≡ true
+          first : counts i ≡ true → slot_within b i direction u ≡ true
           first t =
-              ap (λ (v : Bool). slot_within b i v direction u) (sym t)
+              sym (ap (λ (v : Bool). not v || slot_within b i direction u) t)
               ∙ and_left (quiet i) (all quiet (series (λ i. i) (i + 1) n)) e
 
   -- what a level within its limits says of warnings 2 and 4
@@ -129,34 +129,3 @@ module _ (u : Limits) where
       where
         forced : (m : ℕ) → Within (level_among (counted_records b counted) forced_work direction m)
         forced m = among-quiet b direction m (λ i. get_or counted i false) 0 8 (sym p ∙ t)
-
-  -- what the code finds of a slot
-  pub pair-tested : (z : List ℕ) {n j : ℕ} {p : Pair} {ok r : Bool} → Tested pair-within (pair_at z) n ok j → j < n → p ≡ pair_at z j
-      → r ≡ power_within u p.power.0 → Tested pair-within (pair_at z) n (ok && r) (j + 1)
-  pair-tested z t l e q = tested-more t l (q ∙ ap pair-within e)
-
-  pub pairs-tested : (z : List ℕ) {n i : ℕ} {ok : Bool} → n ≡ stored_count z → Tested pair-within (pair_at z) n ok i → n ≤ i
-      → ok ≡ pairs_within z u
-  unfolding pairs_within
-  pairs-tested z e t h = tested-all t h ∙ ap (λ (k : ℕ). all pair-within (series (pair_at z) 0 k)) e
-
-  module _ (b : List ℕ) (i direction : ℕ) (t : Bool) where
-    pub slot-uncounted : t ≡ false → true ≡ slot_within b i t direction u
-    unfolding slot_within
-    slot-uncounted n = sym (ap (λ (t : Bool). slot_within b i t direction u) n)
-
-    module _ {z : List ℕ} {r : Record} (counts : t ≡ true) (read : z ≡ slot_at b i) (fields : r ≡ record_in z) where
-      asked : {v : Bool} → is_forced r direction ≡ v
-          → (not v || pairs_within (slot_at b i) u) ≡ slot_within b i t direction u
-      unfolding slot_within
-      asked e =
-          sym (ap (λ (v : Bool). not v || pairs_within (slot_at b i) u) e)
-          ∙ ap (λ (r : Record). not (is_forced r direction) || pairs_within (slot_at b i) u) (fields ∙ ap record_in read)
-          ∙ sym (ap (λ (t : Bool). slot_within b i t direction u) counts)
-
-      pub slot-judged : {ok : Bool} → is_forced r direction ≡ true → ok ≡ pairs_within z u
-          → ok ≡ slot_within b i t direction u
-      slot-judged e p = p ∙ ap (λ (z : List ℕ). pairs_within z u) read ∙ asked e
-
-      pub slot-left : is_forced r direction ≡ false → true ≡ slot_within b i t direction u
-      slot-left e = asked e

@@ -7,15 +7,13 @@ use Rattle.quantities.specs.declared.Minute.{Minute}
 use Rattle.quantities.specs.declared.Period.{Period}
 use Rattle.rules.specs.Codes.{positive_derating, negative_derating, forced_work}
 use Rattle.rules.specs.Block.{slot_count}
-use Rattle.rules.specs.Questions.{record_at}
+use Rattle.rules.specs.Questions.{record_of, record_at}
 use Rattle.rules.specs.Minutes.{fits_beside}
-use Rattle.block.specs.declared.Pair.{Pair}
-use Rattle.levels.specs.declared.CountedTypes.{CountedTypes}
 use Rattle.levels.specs.declared.Extremes.{Extremes}
 use Rattle.levels.specs.declared.Lane.{Lane}
 use Rattle.levels.specs.declared.Lanes.{Lanes}
 use Rattle.levels.specs.declared.Limits.{Limits}
-use Rattle.levels.specs.Pairs.{level_among_pairs}
+use Rattle.levels.specs.declared.Swept.{Swept}
 use Rattle.levels.specs.Lanes.{lane_in, lane_pair, level_if_lane, type_level}
 
 -- slot i counts and is of a type; some slot is
@@ -25,18 +23,14 @@ type_at b counted type i = get_or counted i false && eqb (record_at b i).record_
 unfoldable pub some_of_type : List ℕ → List Bool → ℕ → Bool
 some_of_type b counted type = not (all (λ i. not (type_at b counted type i)) (series (λ i. i) 0 slot_count))
 
-abbrev pub counted_types : List ℕ → List Bool → CountedTypes
-counted_types b counted = record {
-  forced = some_of_type b counted forced_work;
-  positive = some_of_type b counted positive_derating;
-  negative = some_of_type b counted negative_derating;
-}
+-- a record of a type counts, the report's among them
+abbrev pub type_counts : List ℕ → List ℕ → Swept → ℕ → Bool
+type_counts b s swept type = swept.with_report && eqb (record_of s).record_type.0 type || some_of_type b swept.counted type
 
--- forced work and a derating count, the report's record among them
-abbrev pub types_meet : CountedTypes → Bool → ℕ → Bool
-types_meet counted with-report type =
-    (counted.forced || with-report && eqb type forced_work)
-    && ((counted.positive || with-report && eqb type positive_derating) || (counted.negative || with-report && eqb type negative_derating))
+-- forced work and a derating count
+unfoldable pub types_meet : List ℕ → List ℕ → Swept → Bool
+types_meet b s swept =
+    type_counts b s swept forced_work && (type_counts b s swept positive_derating || type_counts b s swept negative_derating)
 
 -- lane i, or none where it has no level of the type in any minute of the period
 abbrev pub LaneWithin : Lanes → ℕ → ℕ → Period → Option Lane → Type 0
@@ -52,10 +46,11 @@ pub record Between (e : Extremes) (p : Kilowatt) : Type 0 where
 abbrev pub Covers : Extremes → Option Kilowatt → Type 0
 Covers e l = IfSome l (Between e)
 
--- r covers what e covers, and n pairs
-pub record WiderBy (f : ℕ → Pair) (n : ℕ) (e r : Extremes) : Type 0 where
-  pub old : (p : Kilowatt) → Between e p → Between r p
-  pub new : (j : ℕ) → j < n → Between r (f j).power
+abbrev pub with_power : Extremes → Kilowatt → Extremes
+with_power e p = record {
+  lowest = record { 0 = min e.lowest.0 p.0 };
+  highest = record { 0 = max e.highest.0 p.0 };
+}
 
 -- without extremes there is no level
 abbrev pub CoversIfSome : Option Extremes → Option Kilowatt → Type 0
@@ -97,11 +92,6 @@ pub record MinuteIn (h : Period) (k : ℕ) : Type 0 where
 -- a level in minute k, where there is one, passes, or its minute is among those to be asked
 abbrev pub Asks : (Kilowatt → Type 0) → Period → ℕ → Option Kilowatt → Type 0
 Asks passes h k l = IfSome l (λ p. passes p ⊎ MinuteIn h k)
-
--- r asks what h asks, and the minutes of n pairs from a start on
-pub record AsksBy (passes : Kilowatt → Type 0) (f : ℕ → Pair) (n start : ℕ) (h r : Period) : Type 0 where
-  pub old : (k : ℕ) → MinuteIn h k → MinuteIn r k
-  pub new : (k : ℕ) → start ≤ k → Asks passes r k (level_among_pairs (series f 0 n) k)
 
 -- the levels of a type in every minute of a period
 pub record AsksType (ls : Lanes) (type : ℕ) (period : Period) (passes : Kilowatt → Type 0) (h : Period) : Type 0 where

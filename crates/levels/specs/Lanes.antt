@@ -1,5 +1,5 @@
 -- The records of a sweep as lanes: lane 0 is the report's, lane i + 1 that of slot i.
-use Rattle.std.specs.Prelude.{ℕ, zero, suc, ◌+◌, ◌≤◌, ◌<◌, ◌≡◌, List, Bool, true, false, ◌&&◌, leb, ltb, eqb, length, get_or, min, Option, None, Some, is_some}
+use Rattle.std.specs.Prelude.{ℕ, zero, suc, ◌+◌, ◌≤◌, ◌<◌, ◌≡◌, List, true, false, ◌&&◌, leb, ltb, eqb, length, get_or, min, Option, None, Some, is_some}
 use Rattle.std.specs.Option.{option_or, IfSome}
 use Rattle.fields.specs.Lists.{pick, series}
 use Rattle.quantities.specs.declared.Kilowatt.{Kilowatt}
@@ -27,19 +27,20 @@ use Rattle.levels.specs.Stays.{Stays}
 abbrev pub lane_count : ℕ
 lane_count = slot_count + 1
 
-unfoldable pub lane_of : Bool → Record → ℕ → Option Lane
-lane_of counts r k = pick counts (Some (record { record_type = r.record_type; period = r.period; count = k })) None
+-- a record of k pairs, if it is of a direction
+unfoldable pub lane_of : Record → ℕ → ℕ → Option Lane
+lane_of r k direction =
+    pick (eqb r.direction.0 direction) (Some (record { record_type = r.record_type; period = r.period; count = k })) None
 
-unfoldable pub report_lane : List ℕ → Bool → ℕ → Option Lane
-report_lane s with-report direction = lane_of (with-report && eqb (record_of s).direction.0 direction) (record_of s) (part_count_of s)
+abbrev pub report_lane : List ℕ → ℕ → Option Lane
+report_lane s direction = lane_of (record_of s) (part_count_of s) direction
 
-unfoldable pub slot_lane : List ℕ → ℕ → Bool → ℕ → Option Lane
-slot_lane b i counted direction =
-    lane_of (counted && eqb (record_at b i).direction.0 direction) (record_at b i) (stored_count (slot_at b i))
+abbrev pub slot_lane : List ℕ → ℕ → ℕ → Option Lane
+slot_lane b i direction = lane_of (record_at b i) (stored_count (slot_at b i)) direction
 
 unfoldable pub lane_at : List ℕ → List ℕ → Swept → ℕ → ℕ → Option Lane
-lane_at b s swept direction zero = report_lane s swept.with_report direction
-lane_at b s swept direction (suc i) = slot_lane b i (get_or swept.counted i false) direction
+lane_at b s swept direction zero = pick swept.with_report (report_lane s direction) None
+lane_at b s swept direction (suc i) = pick (get_or swept.counted i false) (slot_lane b i direction) None
 
 -- the pairs of lane i, in the report s or in a slot of the block b
 unfoldable pub lane_pairs : List ℕ → List ℕ → ℕ → ℕ → Pair

@@ -4,4 +4,5 @@ pub mod Counted
 pub mod Lanes
 pub mod Result
 pub mod Extremes
+pub mod Gathered
 pub mod Within

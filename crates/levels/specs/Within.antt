@@ -24,12 +24,12 @@ pairs_within z u = all (λ (p : Pair). power_within u p.power.0) (series (pair_a
 abbrev pub is_forced : Record → ℕ → Bool
 is_forced r direction = eqb r.record_type.0 forced_work && eqb r.direction.0 direction
 
-unfoldable pub slot_within : List ℕ → ℕ → Bool → ℕ → Limits → Bool
-slot_within b i counted direction u = not (counted && is_forced (record_at b i) direction) || pairs_within (slot_at b i) u
+unfoldable pub slot_within : List ℕ → ℕ → ℕ → Limits → Bool
+slot_within b i direction u = not (is_forced (record_at b i) direction) || pairs_within (slot_at b i) u
 
 -- of every slot that counts
 unfoldable pub forced_within : List ℕ → List Bool → ℕ → Limits → Bool
-forced_within b counted direction u = all (λ i. slot_within b i (get_or counted i false) direction u) (series (λ i. i) 0 8)
+forced_within b counted direction u = all (λ i. not (get_or counted i false) || slot_within b i direction u) (series (λ i. i) 0 8)
 
 -- warnings 2 and 4 in some minute of a period
 unfoldable pub level_warnings : ℕ → PowerRange → List FullRecord → ℕ → ℕ → ℕ → LevelWarnings

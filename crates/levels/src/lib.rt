@@ -9,7 +9,8 @@ ghost use Rattle.levels.specs.Pairs.{pairs_of, level_among_pairs, Passed};
 ghost use Rattle.levels.specs.Counted.{counted_records, swept_records};
 ghost use Rattle.levels.specs.Lanes.{lane_count, lane_of, report_lane, slot_lane, lane_at, lane_pair, lane_level, lane_levels, Stepped, Placed, Held, Chosen, chosen_levels, span_at, moved, soonest, Ready};
 ghost use Rattle.levels.specs.Result.{with_span, both_found, found_in, Ran};
-ghost use Rattle.levels.specs.Extremes.{counted_types, types_meet, LaneWithin, WiderBy, CoversType, highest_of, extremes_fit, common, with_unfit, AsksBy, AsksType};
+ghost use Rattle.levels.specs.Extremes.{some_of_type, type_counts, types_meet, LaneWithin, with_power, CoversType, highest_of, extremes_fit, common, with_unfit, AsksType};
+ghost use Rattle.levels.specs.Gathered.{GathersPairs, GathersLanes};
 ghost use Rattle.rules.specs.Codes.{forced_work};
 ghost use Rattle.levels.specs.Within.{power_within, pairs_within, slot_within, forced_within, level_warnings};
 
@@ -104,14 +105,6 @@ pub struct Limits {
     pub range: PowerRange,
 }
 
-// The types that question 17 is about, among the slots that count.
-#[derive(Clone, Copy)]
-pub struct CountedTypes {
-    pub forced: bool,
-    pub positive: bool,
-    pub negative: bool,
-}
-
 // Question 17, and warnings 2 and 4. They are found together: `sweep_lanes` serves both, which differ in what is asked before it.
 #[derive(Clone, Copy)]
 pub struct SweepResult {
@@ -151,7 +144,7 @@ impl<'a> Source<'a> {
         }
     }
 
-    // The power of the first pair that ends after the minute; it stays up to that end.
+    // The power of the first pair that ends after the minute; it stays up to that end. By number: pairs are read one by one, of bytes.
     fn step_among(self, count: u16, place: u16, m: Minute) -> LaneSpan
         requires m_bound { m.0 < 4294967295 }
         requires passed { Passed (pairs_of self) count place m.0 }
@@ -218,36 +211,25 @@ impl<'a> Source<'a> {
         step.span.until
     }
 
-    // The extremes of so many pairs and of what was seen before.
-    fn extremes_in(self, count: u16, seen: Extremes) -> Extremes
-        ensures { WiderBy (pairs_of self.entry) count seen result }
+    // What a closure makes of a lane's pairs in turn; it is told the minute at which a pair's own begin, where the one before it ends.
+    // By number, as in `step_among`.
+    fn gather<G: Copy, F: Fn(G, Minute, Pair) -> G + Copy>(
+        self,
+        lane: Lane,
+        seen: G,
+        with_pair: F,
+    ) -> G
+        requires { F.IsAlwaysCallable with_pair }
+        ensures { GathersPairs (F.post with_pair) (series (pairs_of self.entry) 0 lane.count) lane.period.start seen result }
     {
-        let mut e = seen;
-        for j in 0..count {
-            let power = self.pair(j).power;
-            e = Extremes {
-                lowest: e.lowest.min(power),
-                highest: e.highest.max(power),
-            };
-        }
-        e
-    }
-
-    // The minutes to be asked of a lane's pairs: each begins where the one before it ends.
-    fn asked_in<F: Fn(Kilowatt) -> bool + Copy>(self, lane: Lane, passes: F, seen: Period) -> Period
-        requires { F.IsAlwaysCallable passes }
-        ensures { AsksBy (λ p. F.post passes p true) (pairs_of self.entry) lane.count lane.period.start.0 seen result }
-    {
-        let mut asked = seen;
+        let mut gathered = seen;
         let mut from = lane.period.start;
         for j in 0..lane.count {
             let pair = self.pair(j);
-            let to = pair.end;
-            let fit = passes(pair.power);
-            asked = with_unfit(asked, from, to, fit);
-            from = to;
+            gathered = with_pair(gathered, from, pair);
+            from = pair.end;
         }
-        asked
+        gathered
     }
 }
 
@@ -288,11 +270,12 @@ fn moved<'a>(at: Option<Place<'a>>, until: Minute, m: Minute) -> Option<Place<'a
     at
 }
 
-// A record's lane, if it counts and is of the direction asked.
-fn lane_of(counts: bool, r: Record, count: u16) -> Option<Lane>
-    ensures { result ≡ lane_of counts r count }
+// A record's lane, if it is of the direction asked.
+#[tactic(auto, unfolding(crate::specs::Lanes::lane_of, fields::specs::Lists::pick))]
+fn lane_of(r: Record, count: u16, direction: Direction) -> Option<Lane>
+    ensures { result ≡ lane_of r count direction.0 }
 {
-    if !counts {
+    if r.direction != direction {
         return None;
     }
     Some(Lane {
@@ -302,48 +285,45 @@ fn lane_of(counts: bool, r: Record, count: u16) -> Option<Lane>
     })
 }
 
-fn report_lane(report: &[u8], with_report: bool, direction: Direction) -> Option<Lane>
-    ensures { result ≡ report_lane report.now with_report direction.0 }
+fn report_lane(report: &[u8], direction: Direction) -> Option<Lane>
+    ensures { result ≡ report_lane report.now direction.0 }
 {
-    if !with_report {
-        return None;
-    }
     let h = report::head_of(report);
-    let r = records::record_by(h);
-    lane_of(r.direction == direction, r, h.part_count)
+    lane_of(records::record_by(h), h.part_count, direction)
 }
 
-fn slot_lane(b: &[u8], i: u8, counted: bool, direction: Direction) -> Option<Lane>
-    ensures { result ≡ slot_lane b.now i counted direction.0 }
+fn slot_lane(b: &[u8], i: u8, direction: Direction) -> Option<Lane>
+    ensures { result ≡ slot_lane b.now i direction.0 }
 {
-    if !counted {
-        return None;
-    }
     let z = block::slot_at(b, i);
-    let r = block::record_in(z);
-    lane_of(r.direction == direction, r, block::stored_count(z))
+    lane_of(block::record_in(z), block::stored_count(z), direction)
 }
 
+// The lanes of records that count.
 fn lane_at(b: &[u8], report: &[u8], swept: Swept, direction: Direction, i: u8) -> Option<Lane>
     requires { i < lane_count }
     ensures { result ≡ lane_at b.now report.now swept direction.0 i }
 {
     if i == 0 {
-        return report_lane(report, swept.with_report, direction);
+        return if swept.with_report {
+            report_lane(report, direction)
+        } else {
+            None
+        };
     }
     let slot = i - 1;
-    slot_lane(b, slot, swept.counted[slot as usize], direction)
+    if swept.counted[slot as usize] {
+        slot_lane(b, slot, direction)
+    } else {
+        None
+    }
 }
 
 // The lanes of one direction have the levels of the records that count.
 fn lanes_of<'a>(b: &'a [u8], report: &'a [u8], swept: Swept, direction: Direction) -> Lanes<'a>
     ensures { (m : ℕ) → lane_levels result m ≡ levels_at (swept_records b.now report.now swept.counted swept.with_report) direction.0 m }
 {
-    let mut each = [None; 9];
-    for i in 0..LANE_COUNT {
-        let lane = lane_at(b, report, swept, direction, i);
-        each[i as usize] = lane;
-    }
+    let each = std::array::from_fn(|i: usize| lane_at(b, report, swept, direction, i as u8));
     Lanes {
         block: b,
         report,
@@ -441,21 +421,44 @@ impl<'a> Lanes<'a> {
         if is_within { Some(lane) } else { None }
     }
 
+    // What a closure makes of the pairs of the lanes of a type that share a minute with the period. By number: a lane's pairs go by it.
+    fn gather<G: Copy, F: Fn(G, Minute, Pair) -> G + Copy>(
+        &self,
+        record_type: RecordType,
+        period: Period,
+        seen: G,
+        with_pair: F,
+    ) -> G
+        requires { F.IsAlwaysCallable with_pair }
+        ensures { GathersLanes (F.post with_pair) self.now record_type.0 period 0 lane_count seen result }
+    {
+        let mut gathered = seen;
+        for i in 0..LANE_COUNT {
+            let Some(lane) = self.lane_within(i, record_type, period) else {
+                continue;
+            };
+            gathered = self.pairs(i).gather(lane, gathered, with_pair);
+        }
+        gathered
+    }
+
     // The extremes of the lanes of a type that share a minute with the period.
     fn extremes_of(&self, record_type: RecordType, period: Period) -> Option<Extremes>
         ensures { CoversType self.now record_type.0 period result }
     {
         // Of no power: the lowest is above the highest. A flag or an Option here would be asked in every turn.
-        let mut e = Extremes {
+        let none = Extremes {
             lowest: Kilowatt(4294967295),
             highest: Kilowatt(0),
         };
-        for i in 0..LANE_COUNT {
-            let Some(lane) = self.lane_within(i, record_type, period) else {
-                continue;
-            };
-            e = self.pairs(i).extremes_in(lane.count, e);
-        }
+        let e = self.gather(
+            record_type,
+            period,
+            none,
+            |e: Extremes, _from: Minute, pair: Pair| -> Extremes
+                ensures { result ≡ with_power e pair.power }
+            { with_power(e, pair.power) },
+        );
         if e.lowest <= e.highest { Some(e) } else { None }
     }
 
@@ -464,17 +467,18 @@ impl<'a> Lanes<'a> {
         requires { F.IsAlwaysCallable passes }
         ensures { AsksType self.now forced_work period (λ p. F.post passes p true) result }
     {
-        let mut asked = Period {
+        let none = Period {
             start: LAST,
             end: Minute(0),
         };
-        for i in 0..LANE_COUNT {
-            let Some(lane) = self.lane_within(i, RecordType::FORCED_WORK, period) else {
-                continue;
-            };
-            asked = self.pairs(i).asked_in(lane, passes, asked);
-        }
-        asked
+        self.gather(
+            RecordType::FORCED_WORK,
+            period,
+            none,
+            |asked: Period, from: Minute, pair: Pair| {
+                with_unfit(asked, from, pair.end, passes(pair.power))
+            },
+        )
     }
 }
 
@@ -646,41 +650,30 @@ impl Limits {
         !self.is_high(power) & !self.is_low(power)
     }
 
-    // Every pair is tested, without an early exit: the turns are then alike.
+    // A fold and not `all`: every pair is tested, without an early exit, so that the turns are alike.
     fn pairs_within(self, z: &[u8]) -> bool
         ensures { result ≡ pairs_within z.now self }
     {
-        let count = block::stored_count(z);
-        let mut ok = true;
-        for j in 0..count {
-            let pair = block::pair_at(z, j);
-            ok = ok & self.power_within(pair.power);
-        }
-        ok
+        (0..block::stored_count(z)).fold(
+            true,
+            |ok, j| ok & self.power_within(block::pair_at(z, j).power),
+        )
     }
 
-    fn slot_within(self, b: &[u8], i: u8, counted: bool, direction: Direction) -> bool
-        ensures { result ≡ slot_within b.now i counted direction.0 self }
+    #[tactic(auto, unfolding(crate::specs::Within::slot_within))]
+    fn slot_within(self, b: &[u8], i: u8, direction: Direction) -> bool
+        ensures { result ≡ slot_within b.now i direction.0 self }
     {
-        if !counted {
-            return true;
-        }
         let z = block::slot_at(b, i);
         let r = block::record_in(z);
-        if (r.record_type == RecordType::FORCED_WORK) & (r.direction == direction) {
-            return self.pairs_within(z);
-        }
-        true
+        let is_forced = (r.record_type == RecordType::FORCED_WORK) & (r.direction == direction);
+        !is_forced || self.pairs_within(z)
     }
 
     fn forced_within(self, b: &[u8], counted: [bool; 8], direction: Direction) -> bool
         ensures { result ≡ forced_within b.now counted direction.0 self }
     {
-        let mut ok = true;
-        for i in 0..SLOT_COUNT {
-            ok = ok & self.slot_within(b, i, counted[i as usize], direction);
-        }
-        ok
+        (0..SLOT_COUNT).all(|i| !counted[i as usize] || self.slot_within(b, i, direction))
     }
 }
 
@@ -705,6 +698,15 @@ fn both_found(g: SweepResult, h: SweepResult) -> SweepResult
     }
 }
 
+fn with_power(e: Extremes, power: Kilowatt) -> Extremes
+    ensures { result ≡ with_power e power }
+{
+    Extremes {
+        lowest: e.lowest.min(power),
+        highest: e.highest.max(power),
+    }
+}
+
 // The minutes to be asked, with those of a pair whose level does not fit.
 fn with_unfit(asked: Period, from: Minute, to: Minute, fit: bool) -> Period
     ensures { result ≡ with_unfit asked from to fit }
@@ -718,37 +720,31 @@ fn with_unfit(asked: Period, from: Minute, to: Minute, fit: bool) -> Period
     }
 }
 
-// Which types the slots that count have.
-fn counted_types(b: &[u8], counted: [bool; 8]) -> CountedTypes
-    ensures { result ≡ counted_types b.now counted }
+// Whether a slot that counts is of a type.
+fn some_of_type(b: &[u8], counted: [bool; 8], record_type: RecordType) -> bool
+    ensures { result ≡ some_of_type b.now counted record_type.0 }
 {
-    let mut unforced = true;
-    let mut no_positive = true;
-    let mut no_negative = true;
-    for i in 0..SLOT_COUNT {
-        let r = block::record_in(block::slot_at(b, i));
-        let counts = counted[i as usize];
-        unforced = unforced & !(counts & (r.record_type == RecordType::FORCED_WORK));
-        no_positive = no_positive & !(counts & (r.record_type == RecordType::POSITIVE_DERATING));
-        no_negative = no_negative & !(counts & (r.record_type == RecordType::NEGATIVE_DERATING));
-    }
-    CountedTypes {
-        forced: !unforced,
-        positive: !no_positive,
-        negative: !no_negative,
-    }
+    (0..SLOT_COUNT).any(|i| {
+        counted[i as usize] && block::record_in(block::slot_at(b, i)).record_type == record_type
+    })
 }
 
-// Forced work and a derating count, the report's record among them.
-fn types_meet(counted: CountedTypes, with_report: bool, record_type: RecordType) -> bool
-    ensures { result ≡ types_meet counted with_report record_type.0 }
+// The same, the report's record among them.
+fn type_counts(b: &[u8], report: &[u8], swept: Swept, record_type: RecordType) -> bool
+    ensures { result ≡ type_counts b.now report.now swept record_type.0 }
 {
-    let forced = counted.forced | (with_report & (record_type == RecordType::FORCED_WORK));
-    let positive = counted.positive
-        | (with_report & (record_type == RecordType::POSITIVE_DERATING));
-    let negative = counted.negative
-        | (with_report & (record_type == RecordType::NEGATIVE_DERATING));
-    forced & (positive | negative)
+    let of_report = swept.with_report & (report::head_of(report).record_type == record_type);
+    of_report || some_of_type(b, swept.counted, record_type)
+}
+
+// Forced work and a derating count.
+#[tactic(auto, unfolding(crate::specs::Extremes::types_meet))]
+fn types_meet(b: &[u8], report: &[u8], swept: Swept) -> bool
+    ensures { result ≡ types_meet b.now report.now swept }
+{
+    let counts = |t: RecordType| type_counts(b, report, swept, t);
+    counts(RecordType::FORCED_WORK)
+        && (counts(RecordType::POSITIVE_DERATING) || counts(RecordType::NEGATIVE_DERATING))
 }
 
 // Question 17 in every minute of a period, of the records of one direction. Swept are only minutes between forced levels that do not
@@ -763,13 +759,7 @@ pub fn fits(
 ) -> bool
     ensures { result ≡ levels_every (levels_fit limits.kind.0 limits.range) (swept_records b.now report.now swept.counted swept.with_report) direction.0 period.start.0 period.end.0 }
 {
-    let counted = swept.counted;
-    let types = counted_types(b, counted);
-    if !types_meet(
-        types,
-        swept.with_report,
-        report::head_of(report).record_type,
-    ) {
+    if !types_meet(b, report, swept) {
         return true;
     }
     let lanes = lanes_of(b, report, swept, direction);

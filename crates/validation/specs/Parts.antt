@@ -1,6 +1,6 @@
 -- What one pass over a report's parts answers; what validation gives.
-use Rattle.std.specs.Prelude.{ℕ, List, [], Bool, ◌&&◌, ◌||◌, pos, Result, Ok, Err, ⊤}
-use Rattle.fields.specs.Lists.{all}
+use Rattle.std.specs.Prelude.{ℕ, List, [], ◌∷◌, Bool, not, ◌&&◌, ◌||◌, leb, ltb, eqb, pos, Result, Ok, Err, ⊤}
+use Rattle.fields.specs.Lists.{pick, every, all}
 use Rattle.quantities.specs.declared.Kilowatt.{Kilowatt}
 use Rattle.quantities.specs.declared.Minute.{Minute}
 use Rattle.report.specs.declared.Head.{Head}
@@ -9,6 +9,7 @@ use Rattle.report.specs.declared.Broken.{Broken}
 use Rattle.rules.specs.declared.PowerRange.{PowerRange}
 use Rattle.rules.specs.declared.Refusal.{Refusal}
 use Rattle.rules.specs.declared.UnitHead.{UnitHead}
+use Rattle.rules.specs.Codes.{off_grid}
 use Rattle.rules.specs.Records.{part_times, powers_in_range, kind_allows, begun}
 use Rattle.rules.specs.Questions.{record_by, event_head, quarter_hour, part_on_quarter, derating_fits, question4, question6, question8, question16}
 use Rattle.rules.specs.Judge.{must, validation_number}
@@ -30,6 +31,21 @@ answers_of ps stamp range type = record {
   powers = powers_in_range ps;
   deratings = all (derating_fits range type) ps;
 }
+
+-- question 6: "Event: mark 2, start ≤ stamp, end = start."
+abbrev pub event_times : Head → Bool
+event_times h =
+    every (begun (record_by h) ∷ leb h.period.start.0 h.stamp.0 ∷ eqb h.period.end.0 h.period.start.0 ∷ [])
+
+-- question 6: "Types 1–5: start < end, end > stamp; mark 1 with start > stamp, mark 2 with start ≤ stamp; type 5 needs mark 2."
+abbrev pub record_times : Head → Bool
+record_times h =
+    every
+    (ltb h.period.start.0 h.period.end.0
+    ∷ ltb h.stamp.0 h.period.end.0
+    ∷ pick (begun (record_by h)) (leb h.period.start.0 h.stamp.0) (ltb h.stamp.0 h.period.start.0)
+    ∷ (not (eqb h.record_type.0 off_grid) || begun (record_by h))
+    ∷ [])
 
 -- question 7, but for the parts
 abbrev pub head_on_quarters : Head → Bool

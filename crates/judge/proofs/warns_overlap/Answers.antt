@@ -1,14 +1,13 @@
-use mathlib.Core.Path.{ap}
-use mathlib.Core.Bool.{not}
-use Rattle.fields.proofs.Tests.{tested-none, tested-more, tested-all}
-use Rattle.judge.proofs.Warnings.{warns-join}
+use Rattle.std.proofs.Common.{rules, tests, arith, ◌∙◌}
+use Rattle.std.proofs.lemmas.Iterator.{YieldsList-from_range}
+use Rattle.std.proofs.lemmas.Iterator.Search.{any_from_yields_List}
+use Rattle.judge.proofs.Joins.{some-slot}
+use Rattle.judge.specs.Warned.{overlap_at}
+use Rattle.rules.specs.After.{warns_overlap}
 use Rattle.judge.proofs.warns_overlap.Goals as goal
 
-pub loop-i-init : goal.loop-i-init
-loop-i-init c = tested-none
-
-pub loop-i-preserved : goal.loop-i-preserved
-loop-i-preserved c = tested-more c.loop-i.invariant c.loop-i-test.true (ap not c.overlaps_at.ensures)
-
 pub returns : goal.returns
-returns c = warns-join _ _ c.record_by-r.ensures (tested-all c.loop-i.invariant c.loop-i-test.false)
+unfolding warns_overlap
+returns c =
+    let found = any_from_yields_List (λ i. overlap_at c.args.after.now c.record_by-r.result i) _ _ c.any.result c.any.ensures.ran (YieldsList-from_range 0 8 8 (cc) (omega arith)) (λ x b q k. search (rules, tests)) in
+    rw c.record_by-r.ensures at (found ∙ some-slot (λ i. overlap_at c.args.after.now c.record_by-r.result i))

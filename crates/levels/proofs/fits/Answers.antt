@@ -5,7 +5,7 @@ use Rattle.levels.proofs.Asked.{asked-enough}
 use Rattle.levels.proofs.fits.Goals as goal
 
 pub returns-then-not-types_meet : goal.returns-then-not-types_meet
-returns-then-not-types_meet c = fits-apart _ _ _ _ _ _ _ _ _ c.head_of.ensures c.counted_types-types.ensures c.types_meet.ensures c.if-not-types_meet.true
+returns-then-not-types_meet c = fits-apart _ _ _ _ _ _ _ _ c.types_meet.ensures c.if-not-types_meet.true
 
 pub returns-in_default : goal.returns-in_default
 returns-in_default c =

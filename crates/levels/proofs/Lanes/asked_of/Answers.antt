@@ -1,13 +1,7 @@
-use Rattle.levels.proofs.Asked.{lanes-past, lanes-more, lanes_all}
+use Rattle.std.proofs.Common.{rules}
+use Rattle.rules.specs.Codes.{forced_work}
+use Rattle.levels.proofs.Asked.{lanes-asked}
 use Rattle.levels.proofs.Lanes.asked_of.Goals as goal
 
-pub loop-i-preserved-in_default : goal.loop-i-preserved-in_default
-loop-i-preserved-in_default g c =
-    lanes-past _ _ _ c.loop-i.invariant c.loop-i-test.true c.in_default.ensures
-
-pub loop-i-preserved : goal.loop-i-preserved
-loop-i-preserved g c =
-    lanes-more _ _ _ c.loop-i.invariant c.loop-i-test.true c.in-Some.ensures c.pairs.ensures c.asked_in-asked.ensures
-
 pub returns : goal.returns
-returns g c = lanes_all _ _ _ c.loop-i.invariant c.loop-i-test.false
+returns g c = lanes-asked _ forced_work _ (λ p. goal.F-post g c.args.passes p) (λ h from p r s. search rules) _ _ c.gather.ensures

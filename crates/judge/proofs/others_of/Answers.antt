@@ -1,7 +1,0 @@
-use native.Mathlib.Omega.{arith}
-use Rattle.std.proofs.Common.{rules}
-use Rattle.judge.proofs.Joins.{made-map, no_answers}
-use Rattle.judge.proofs.others_of.Goals as goal
-
-pub returns : goal.returns
-returns c = made-map c.args.slots (λ a. a.other) 8 no_answers (omega arith) c.map.ensures.items (λ p q x y called. search rules)
