@@ -1,24 +1,23 @@
 -- What the code joins is what the definitions join: each law takes what the callees ensure. Assumes nothing.
 use Prim.Native.Nat.{ℕ, zero, suc, ◌+◌, ◌≤◌, ◌<◌}
 use Rattle.std.specs.Prelude.{Option, Some, None, map, find}
-use Rattle.std.specs.List.{range_with_len, list_any}
+use Rattle.std.specs.List.{range_with_len}
 use Rattle.std.specs.Option.{option_map}
-use Rattle.rules.specs.After.{some_slot}
 use Rattle.std.specs.Array.{IsMapOf}
 use Rattle.std.specs.Fn.{Mut, Called}
 use Rattle.std.proofs.lemmas.List.{same_lists, length-map, get_or-map}
 use borrow.Author.Tests.{lt-ltb, le-ltb}
 use mathlib.Core.Path.{◌≡◌, refl, sym, ◌∙◌}
-use mathlib.Core.Bool.{Bool, true, false, not, ◌&&◌, ◌||◌}
+use mathlib.Core.Bool.{Bool, true, false}
 use mathlib.Core.List.{List, [], ◌∷◌}
 use native.Mathlib.Omega.{arith}
 use lib.ListN.{length}
 use lib.Dec.{ltb}
-use Rattle.fields.specs.Lists.{pick, all, series, seek}
+use Rattle.fields.specs.Lists.{pick, seek}
 use Rattle.rules.specs.Minutes.{records_among}
 use Rattle.rules.specs.Block.{slot_count, slot_numbered}
 
--- what `find` gives over the slots' numbers, and `any`
+-- what `find` gives over the slots' numbers
 found-is : (test : ℕ → Bool) (i n : ℕ) → find test (range_with_len i n) ≡ pick (ltb (seek test i n) (i + n)) (Some (seek test i n)) None
 unfolding seek pick
 found-is test i zero = rw (le-ltb i (i + 0) (omega arith))
@@ -38,19 +37,6 @@ as-is (Some x) = refl
 pub found-slot : (test : ℕ → Bool) {r : Option ℕ} → option_map (λ x. x) r ≡ find test (range_with_len 0 slot_count)
     → r ≡ slot_numbered (seek test 0 slot_count)
 found-slot test {r} e = as-is r ∙ e ∙ found-is test 0 slot_count
-
-pub any-passes : {A : Type 0} (p : A → Bool) (g : ℕ → A) (i n : ℕ)
-    → list_any p (series g i n) ≡ not (all (λ j. not (p (g j))) (series (λ j. j) i n))
-unfolding series all
-any-passes p g i zero = refl
-any-passes p g i (suc n) = rw (any-passes p g (i + 1) n) (either (p (g i)) (all (λ j. not (p (g j))) (series (λ j. j) (i + 1) n))) where
-  either : (a b : Bool) → (a || not b) ≡ not (not a && b)
-  either true b = refl
-  either false b = refl
-
-pub some-slot : (test : ℕ → Bool) → list_any test (range_with_len 0 slot_count) ≡ some_slot test
-unfolding some_slot series
-some-slot test = any-passes test (λ j. j) 0 slot_count
 
 -- what a call for each element makes
 pub made-map : {F A B : Type 0} {g : Mut F (A × Unit {0}) B} {f : F} (xs : List A) {ys : List B} (k : A → B) (n : ℕ) → length xs ≡ n
