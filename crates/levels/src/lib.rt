@@ -144,26 +144,23 @@ impl<'a> Source<'a> {
         }
     }
 
-    // The power of the first pair that ends after the minute; it stays up to that end. By number: pairs are read one by one, of bytes.
+    // The power of the first pair that ends after the minute; it stays up to that end.
     fn step_among(self, count: u16, place: u16, m: Minute) -> LaneSpan
         requires m_bound { m.0 < 4294967295 }
         requires passed { Passed (pairs_of self) count place m.0 }
         ensures { Stepped (pairs_of self.entry) count m.0 (level_among_pairs (series (pairs_of self.entry) 0 count)) result }
     {
-        for j in place..count {
-            let pair = self.pair(j);
-            let until = pair.end;
-            if m < until {
-                let level = Some(pair.power);
-                let span = LevelSpan { level, until };
-                return LaneSpan { span, place: j };
-            }
-        }
-        let span = LevelSpan {
-            level: None,
-            until: LAST,
+        let Some(place) = (place..count).find(|j| m < self.pair(*j).end) else {
+            let span = level_at(None);
+            return LaneSpan { span, place: count };
         };
-        LaneSpan { span, place: count }
+        let at = Place {
+            pairs: self,
+            count,
+            place,
+        };
+        let span = level_at(Some(at));
+        LaneSpan { span, place }
     }
 
     // The level of a lane with these pairs.
@@ -212,7 +209,7 @@ impl<'a> Source<'a> {
     }
 
     // What a closure makes of a lane's pairs in turn; it is told the minute at which a pair's own begin, where the one before it ends.
-    // By number, as in `step_among`.
+    // By number: a fold would carry that minute beside what is gathered, and be no plainer.
     fn gather<G: Copy, F: Fn(G, Minute, Pair) -> G + Copy>(
         self,
         lane: Lane,
