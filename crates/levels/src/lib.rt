@@ -9,7 +9,7 @@ ghost use Rattle.levels.specs.Pairs.{pairs_of, level_among_pairs, Passed};
 ghost use Rattle.levels.specs.Counted.{counted_records, swept_records};
 ghost use Rattle.levels.specs.Lanes.{lane_count, lane_of, report_lane, slot_lane, lane_at, lane_pair, lane_level, lane_levels, Stepped, Placed, Held, Chosen, chosen_levels, span_at, moved, soonest, Ready};
 ghost use Rattle.levels.specs.Result.{with_span, both_found, found_in, Ran};
-ghost use Rattle.levels.specs.Extremes.{some_of_type, type_counts, types_meet, LaneWithin, with_power, CoversType, highest_of, extremes_fit, common, with_unfit, AsksType};
+ghost use Rattle.levels.specs.Extremes.{some_of_type, type_counts, types_meet, LaneWithin, with_power, CoversType, highest_of, extremes_fit, common, joined_with, AsksType};
 ghost use Rattle.levels.specs.Gathered.{GathersPairs, GathersLanes};
 ghost use Rattle.rules.specs.Codes.{forced_work};
 ghost use Rattle.levels.specs.Within.{power_within, pairs_within, slot_within, forced_within, level_warnings};
@@ -473,7 +473,11 @@ impl<'a> Lanes<'a> {
             period,
             none,
             |asked: Period, from: Minute, pair: Pair| {
-                with_unfit(asked, from, pair.end, passes(pair.power))
+                if passes(pair.power) {
+                    asked
+                } else {
+                    joined_with(asked, from, pair.end)
+                }
             },
         )
     }
@@ -704,13 +708,10 @@ fn with_power(e: Extremes, power: Kilowatt) -> Extremes
     }
 }
 
-// The minutes to be asked, with those of a pair whose level does not fit.
-fn with_unfit(asked: Period, from: Minute, to: Minute, fit: bool) -> Period
-    ensures { result ≡ with_unfit asked from to fit }
+// With the minutes of a pair whose level does not fit, and those between.
+fn joined_with(asked: Period, from: Minute, to: Minute) -> Period
+    ensures { result ≡ joined_with asked from to }
 {
-    if fit {
-        return asked;
-    }
     Period {
         start: asked.start.min(from),
         end: asked.end.max(to),
