@@ -76,23 +76,23 @@ module _ (kind : ℕ) (last : Minute) where
       ∙ ap (list_all (slot_whole kind last)) (take-append-drop end zs)
 
 -- a free slot is apart from every other one
-pub apart-free : (y : List ℕ) (zs : List (List ℕ)) → used y ≡ false → list_all (slots_apart y) zs ≡ true
+pub apart_free : (y : List ℕ) (zs : List (List ℕ)) → used y ≡ false → list_all (slots_apart y) zs ≡ true
 unfolding slots_apart
-apart-free y [] e = refl
-apart-free y (z ∷ zs) e = rw e (apart-free y zs e)
+apart_free y [] e = refl
+apart_free y (z ∷ zs) e = rw e (apart_free y zs e)
 
-pub apart-used : (y : List ℕ) (zs : List (List ℕ)) → used y ≡ true
+pub apart_used : (y : List ℕ) (zs : List (List ℕ)) → used y ≡ true
     → list_all (λ z. not (used z) || records_apart (record_in y) (record_in z)) zs ≡ list_all (slots_apart y) zs
 unfolding slots_apart
-apart-used y [] e = refl
-apart-used y (z ∷ zs) e = rw (apart-used y zs e, e)
+apart_used y [] e = refl
+apart_used y (z ∷ zs) e = rw (apart_used y zs e, e)
 
 -- free slots at the end
 apart-none : (below zs : List (List ℕ)) → All (λ z. used z ≡ false) zs → each_apart below zs ≡ true
 unfolding each_apart
 apart-none below [] free = refl
 apart-none below (z ∷ zs) free =
-    rw (apart-free z below (All-head (λ x. used x ≡ false) z zs free)) (apart-none (below ++ (z ∷ [])) zs (All-tail (λ x. used x ≡ false) z zs free))
+    rw (apart_free z below (All-head (λ x. used x ≡ false) z zs free)) (apart-none (below ++ (z ∷ [])) zs (All-tail (λ x. used x ≡ false) z zs free))
 
 apart-rest : (below zs free : List (List ℕ)) → All (λ z. used z ≡ false) free → each_apart below (zs ++ free) ≡ each_apart below zs
 unfolding each_apart

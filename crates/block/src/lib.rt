@@ -365,11 +365,7 @@ fn slots_whole(kind: Kind, last: Minute, slots: &[[u8; SLOT_SIZE]], end: usize) 
 fn slot_apart(r: Record, z: &[u8]) -> bool
     ensures { result ≡ (not (used z.now) || records_apart r (record_in z.now)) }
 {
-    if is_used(z) {
-        records::records_apart(r, record_in(z))
-    } else {
-        true
-    }
+    !is_used(z) || records::records_apart(r, record_in(z))
 }
 
 // A record and what is in slots.
@@ -383,11 +379,7 @@ fn apart_from(r: Record, slots: &[[u8; SLOT_SIZE]]) -> bool
 fn slot_apart_below(y: &[u8], below: &[[u8; SLOT_SIZE]]) -> bool
     ensures { result ≡ list_all (slots_apart y.now) below.now }
 {
-    if is_used(y) {
-        apart_from(record_in(y), below)
-    } else {
-        true
-    }
+    !is_used(y) || apart_from(record_in(y), below)
 }
 
 fn slots_apart(slots: &[[u8; SLOT_SIZE]]) -> bool

@@ -1,9 +1,10 @@
-use mathlib.Core.Path.{sym, ◌∙◌}
-use Rattle.block.proofs.FreeSlots.{apart-used, apart-free}
+use Rattle.std.proofs.Common.{ap, sym, ◌∙◌}
+use mathlib.Core.Bool.{not}
+use Rattle.block.proofs.FreeSlots.{apart_used, apart_free}
 use Rattle.block.proofs.slot_apart_below.Goals as goal
 
-pub returns-then-is_used : goal.returns-then-is_used
-returns-then-is_used c = c.apart_from.ensures ∙ rw c.record_in.ensures (apart-used _ c.args.below.now (sym c.is_used.ensures ∙ c.if-is_used.true))
+pub returns-then-not-is_used : goal.returns-then-not-is_used
+returns-then-not-is_used c = ap not c.if-not-is_used.true ∙ sym (apart_free _ c.args.below.now (sym c.is_used.ensures ∙ c.if-not-is_used.true))
 
-pub returns-else-is_used : goal.returns-else-is_used
-returns-else-is_used c = sym (apart-free _ c.args.below.now (sym c.is_used.ensures ∙ c.if-is_used.false))
+pub returns-else-not-is_used : goal.returns-else-not-is_used
+returns-else-not-is_used c = c.apart_from.ensures ∙ rw c.record_in.ensures (apart_used _ c.args.below.now (sym c.is_used.ensures ∙ c.if-not-is_used.false))
