@@ -22,7 +22,7 @@ use Rattle.quantities.specs.declared.Minute.{Minute}
 use Rattle.rules.specs.Block.{slot_size, zeros_at, used, record_in}
 use Rattle.rules.specs.Whole.{records_apart, slot_whole, slots_apart}
 use Rattle.block.specs.Slot.{FreeFrom, each_apart}
-use Rattle.block.proofs.Chunks.{all-elements}
+use Rattle.fields.proofs.Chunks.{all-elements}
 use Rattle.block.proofs.Pairs.{free-slot}
 
 -- two numbers have no bit together exactly if neither has one

@@ -11,7 +11,7 @@ use Rattle.fields.specs.Lists.{all, series, part}
 use Rattle.rules.specs.Block.{zeros_at}
 use Rattle.block.specs.Slot.{stretch_size}
 use Rattle.block.proofs.Cut.{zeros-part}
-use Rattle.block.proofs.Chunks.{chunk-at}
+use Rattle.fields.proofs.Chunks.{chunk-at}
 use Rattle.block.proofs.FreeSlots.{no_bits, zeros-cut}
 
 bits-from : (s : List ℕ) (n at a : ℕ) → at + n ≡ length s → eqb (fold (λ bits b. bit_or bits b) a (drop at s)) 0 ≡ (eqb a 0 && zeros_at s at n)

@@ -2,7 +2,7 @@ use Rattle.std.proofs.Common.{◌≡◌, ◌/◌, ap, arith, ◌∙◌, length, 
 use Rattle.std.specs.Simd.{first_chunks}
 use Rattle.report.specs.Report.{most_parts}
 use Rattle.rules.specs.Block.{pairs_start, pair_size}
-use Rattle.block.proofs.Chunks.{chunks-take}
+use Rattle.fields.proofs.Chunks.{chunks-take}
 use Rattle.block.proofs.pairs_of.Goals as goal
 
 pub returns : goal.returns

@@ -1,7 +1,7 @@
 use Rattle.std.proofs.Common.{◌≡◌, ◌/◌, ap, arith, ◌∙◌, length, length-drop, drop}
 use Rattle.std.specs.Simd.{first_chunks}
 use Rattle.rules.specs.Block.{head_size, slot_size, slot_count, slot_at}
-use Rattle.block.proofs.Chunks.{chunks}
+use Rattle.fields.proofs.Chunks.{chunks}
 use Rattle.block.proofs.slots_of.Goals as goal
 
 pub returns : goal.returns
