@@ -16,8 +16,8 @@ use Rattle.rules.specs.Desk.{answer_to, answers}
 use Rattle.log_lines.specs.declared.Totals.{Totals}
 use Rattle.log_lines.specs.declared.Progress.{Progress}
 use Rattle.log_lines.specs.declared.Logged.{Logged}
-use Rattle.log_lines.specs.Log.{is_clean, is_warned, is_refused, count_of, totals_of, log_line, totals_line}
-use Rattle.log_lines.proofs.Texts.{Line}
+use Rattle.log_lines.specs.Log.{is_clean, is_warned, is_refused, count_of, totals_of, line_with, log_line, totals_line}
+use Rattle.log_lines.specs.Texts.{Puts}
 use Rattle.log_lines.specs.Run.{most_counted, one_more, count_answer, progress_after, at_start, logged_at, logged_with}
 use Rattle.log_lines.specs.Run.{log_from, lines_of, log_of, stated_length}
 
@@ -98,13 +98,12 @@ log-of-list register ss room =
     at (log-from ss at_start register (omega (arith, room))
     (record { clean = omega arith; warned = omega arith; refused = omega arith }))
 
--- a step of the log, whichever line is written
-pub logged : (line : ℕ → List ℕ → Answer
-    → List ℕ) (so_far : Progress) (s : List ℕ) {a given : Answer} {p : Progress} {n : ℕ} (here there : List ℕ) → a ≡ given
-    → p ≡ progress_after so_far a → Line here (line p.lines s a) there n → {l : Logged} → l ≡ logged_at p a n
-    → (l ≡ logged_with (line (one_more so_far.lines) s given) so_far given) ×
-    (there ≡ put here 0 (line (one_more so_far.lines) s given))
-logged line so_far s here there same next p all = rw (← same) (all ∙ rw (p.0, next), p.1 ∙ rw next)
+-- a step of the log, whichever column its line has
+pub logged : (column : List ℕ → List ℕ) (so_far : Progress) (s : List ℕ) {a given : Answer} {p : Progress} {m n : ℕ} (here there : List ℕ)
+    → a ≡ given → p ≡ progress_after so_far a → Puts m here (line_with column p.lines s a) there n → {l : Logged} → l ≡ logged_at p a n
+    → (l ≡ logged_with (line_with column (one_more so_far.lines) s given) so_far given) ×
+    (there ≡ put here 0 (line_with column (one_more so_far.lines) s given))
+logged column so_far s here there same next p all = rw (← same) (all ∙ rw (p.value, next), p.text_after ∙ rw next)
 
 -- a report's length by its own k and t
 module _ (s : List ℕ) (k t : ℕ) where

@@ -1,8 +1,10 @@
-use native.Mathlib.Omega.{arith}
-use Rattle.log_lines.proofs.Texts.{set-up-put}
+use Rattle.std.proofs.Common.{rules, arith}
+use Rattle.log_lines.specs.Log.{set_up_line}
+use Rattle.log_lines.proofs.Texts.{then, all-put}
 use Rattle.log_lines.proofs.put_set_up.Goals as goal
 
 pub returns : goal.returns
+unfolding set_up_line
 returns c =
-    let said = set-up-put _ _ _ _ _ _ _ _ (c.put_text-number_at.ensures.value, c.put_text-number_at.ensures.text_after) (c.put_decimal-end.ensures.value, c.put_decimal-end.ensures.text_after) (c.put_text.ensures.value, c.put_text.ensures.text_after) in
-    record { upper_bound = omega arith; value = said.0; text_after = said.1 }
+    let new = c.new-text.ensures in
+    all-put _ new.bytes new.end (then (then c.put.ensures c.put_decimal.ensures) c.put-2.ensures) (search rules) (omega arith)
