@@ -1,15 +1,15 @@
 -- The counts of a log's steps, and the log of a list of reports. Assumes nothing.
-use Prim.Native.Nat.{ℕ, ◌+◌, ◌≤◌, ◌<◌}
+use Prim.Native.Nat.{ℕ, ◌+◌, ◌≤◌, ◌<◌, min}
 use mathlib.Core.Path.{◌≡◌, sym, ◌∙◌}
 use mathlib.Core.Bool.{Bool, true, false, ◌&&◌}
 use mathlib.Core.List.{List, [], ◌∷◌, ◌++◌, append_assoc}
 use native.Mathlib.Nat.{add-zero, zero-add}
 use native.Mathlib.Omega.{arith}
-use lib.Dec.{leb}
+use lib.Dec.{leb, ltb}
 use lib.ListN.{length}
-use borrow.Author.Tests.{lt-ltb, le-ltb, leb-true}
+use borrow.Author.Tests.{lt-ltb, leb-true, ltb-true, ltb-false}
 use Rattle.fields.specs.Lists.{pick, put}
-use Rattle.fields.proofs.Bools.{and_left, and_right}
+use Rattle.fields.proofs.Bools.{and_left, and_right, pick-elim}
 use Rattle.report.specs.Report.{most_parts, most_text, parts_start, text_after, head_of}
 use Rattle.rules.specs.declared.Answer.{Answer}
 use Rattle.rules.specs.Desk.{answer_to, answers}
@@ -25,9 +25,11 @@ pub one_more-below : (n : ℕ) → n < most_counted → one_more n ≡ n + 1
 unfolding pick
 one_more-below n l = rw (lt-ltb n most_counted l)
 
-pub no_more : (n : ℕ) → most_counted ≤ n → one_more n ≡ n
-unfolding pick
-no_more n l = rw (le-ltb n most_counted l)
+-- the next count is what a saturating sum gives
+pub saturated : (n : ℕ) → n ≤ most_counted → min (n + 1) most_counted ≡ one_more n
+saturated n h =
+    pick-elim (λ (k : ℕ). min (n + 1) most_counted ≡ k) (ltb n most_counted) (λ t. omega (arith, ltb-true n most_counted t, h))
+    (λ t. omega (arith, ltb-false n most_counted t, h))
 
 -- a count that one answer moves, and those after it
 moved : (n later : ℕ) (t : Bool) → n < most_counted → pick t (one_more n) n + later ≡ n + (pick t 1 0 + later)

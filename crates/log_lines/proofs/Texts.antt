@@ -44,9 +44,9 @@ same_text e h p = rw (← e) record {
 }
 
 -- a whole text, from the start of the buffer
-pub all-put : {n : ℕ} {a b : Text} {x here there : List ℕ} (m : ℕ) → a.bytes.now ≡ here → a.end ≡ 0 → Writes m a x b
+pub all_put : {n : ℕ} {a b : Text} {x here there : List ℕ} (m : ℕ) → a.bytes.now ≡ here → a.end ≡ 0 → Writes m a x b
     → there ≡ b.bytes.now → m ≤ n → Puts n here x there b.end
-all-put m at-first from-start p ends h = record {
+all_put m at-first from-start p ends h = record {
   upper_bound = rw (p.end, from-start) (omega (arith, p.upper_bound, h));
   value = p.end ∙ rw from-start (omega arith);
   text_after = ends ∙ p.bytes ∙ rw (at-first, from-start);

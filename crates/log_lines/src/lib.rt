@@ -57,6 +57,7 @@ fn digit(n: u64) -> u8
     (48 + n % 10) as u8
 }
 
+#[tactic(auto, unfolding(fields::specs::Lists::pick))]
 fn hex_digit(n: u8) -> u8
     requires { n < 16 }
     ensures { result ≡ hex_digit n }
@@ -197,6 +198,7 @@ impl Lines for Plain {
         b""
     }
 
+    #[tactic(auto, using(crate::proofs::Texts::nothing))]
     fn put_column(text: &mut Text, report: &[u8]) {}
 
     ghost bounded = { Prim.search rules };
@@ -282,18 +284,21 @@ pub fn put_set_up(text: &mut [u8], units: u64) -> usize
     text.end
 }
 
+#[tactic(auto, using(crate::proofs::Counts::saturated))]
 fn one_more(n: u64) -> u64
     ensures { result ≡ one_more n }
 {
-    if n < 18446744073709551615 { n + 1 } else { n }
+    n.saturating_add(1)
 }
 
+#[tactic(auto, unfolding(fields::specs::Lists::pick))]
 fn counted(n: u64, counts: bool) -> u64
     ensures { result ≡ pick counts (one_more n) n }
 {
     if counts { one_more(n) } else { n }
 }
 
+#[tactic(auto, unfolding(crate::specs::Run::count_answer))]
 fn count_answer(t: Totals, a: Answer) -> Totals
     ensures { result ≡ count_answer t a }
 {

@@ -1,10 +1,10 @@
 use Rattle.std.proofs.Common.{rules, arith}
 use Rattle.log_lines.specs.Log.{set_up_line}
-use Rattle.log_lines.proofs.Texts.{then, all-put}
+use Rattle.log_lines.proofs.Texts.{then, all_put}
 use Rattle.log_lines.proofs.put_set_up.Goals as goal
 
 pub returns : goal.returns
 unfolding set_up_line
 returns c =
     let new = c.new-text.ensures in
-    all-put _ new.bytes new.end (then (then c.put.ensures c.put_decimal.ensures) c.put-2.ensures) (search rules) (omega arith)
+    all_put _ new.bytes new.end (then (then c.put.ensures c.put_decimal.ensures) c.put-2.ensures) (search rules) (omega arith)
