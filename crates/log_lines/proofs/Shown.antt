@@ -1,33 +1,14 @@
 -- A remark's bytes as they are shown. Assumes nothing.
-use Prim.Native.Nat.{ℕ, suc, ◌+◌, ◌*◌, ◌/◌, ◌%◌, ◌<◌}
+use Prim.Native.Nat.{ℕ, suc, ◌+◌, ◌*◌, ◌<◌}
 use mathlib.Core.Path.{◌≡◌, refl, sym}
-use mathlib.Core.Bool.{true, false, ◌&&◌}
 use mathlib.Core.List.{List, [], ◌∷◌, ◌++◌, append_assoc, append-nil}
 use native.Mathlib.Omega.{arith}
-use lib.Dec.{leb}
 use lib.ListN.{length, take, get_or}
 use lib.Seq.{take-suc}
-use borrow.Author.Tests.{ne_eqb}
-use Rattle.fields.specs.Lists.{pick}
-use Rattle.fields.specs.Ascii.{ascii}
 use Rattle.log_lines.specs.declared.Text.{Text}
 use Rattle.log_lines.specs.Texts.{Writes}
-use Rattle.log_lines.specs.Remarks.{hex_digit, shown_byte, shown}
+use Rattle.log_lines.specs.Remarks.{shown_byte, shown}
 use Rattle.log_lines.proofs.Texts.{then, same_text}
-
-pub backslash : (b : ℕ) → b ≡ 92 → ascii "\\\\" ≡ shown_byte b
-unfolding shown_byte pick
-backslash b e = rw e
-
-module _ (b : ℕ) (other : b ≡ 92 → ⊥) where
-  pub as-it-is : (leb 0x20 b && leb b 0x7E) ≡ true → b ∷ [] ≡ shown_byte b
-  unfolding shown_byte pick
-  as-it-is e = rw (ne_eqb b 92 other, e)
-
-  pub in-hex : (leb 0x20 b && leb b 0x7E) ≡ false → {h l : ℕ} → h ≡ hex_digit (b / 16) → l ≡ hex_digit (b % 16)
-      → ascii "\\x" ++ (h ∷ l ∷ []) ≡ shown_byte b
-  unfolding shown_byte pick
-  in-hex e high low = rw (ne_eqb b 92 other, e, high, low)
 
 shown-append : (xs ys : List ℕ) → shown (xs ++ ys) ≡ shown xs ++ shown ys
 unfolding shown

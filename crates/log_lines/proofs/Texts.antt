@@ -6,15 +6,14 @@ use mathlib.Core.List.{List, [], ◌∷◌, ◌++◌, append_assoc}
 use native.Mathlib.Omega.{arith}
 use lib.Dec.{ltb}
 use lib.ListN.{length, length-append}
-use borrow.Author.Tests.{lt-ltb, le-ltb, ne_eqb}
+use borrow.Author.Tests.{lt-ltb, le-ltb}
 use Rattle.fields.specs.Lists.{pick}
 use Rattle.fields.proofs.Bools.{pick-elim}
 use Rattle.fields.proofs.Slices.{put-append, put-nothing}
 use Rattle.calendar.specs.Calendar.{digit}
-use Rattle.fields.specs.Ascii.{ascii}
 use Rattle.log_lines.specs.declared.Text.{Text}
 use Rattle.log_lines.specs.Texts.{Writes, Puts}
-use Rattle.log_lines.specs.Log.{decimal_before, decimal, space, unit_text, number_column}
+use Rattle.log_lines.specs.Log.{decimal_before, decimal}
 use Rattle.log_lines.specs.Run.{most_counted}
 
 -- one text and then another
@@ -112,12 +111,3 @@ digit-more {a = a} {d = d} {n = n} l h e p q =
       bytes = all.bytes;
       upper_bound = decimal-length 20 n [];
     }
-
--- a unit, or the hyphen that stands for it
-pub unit-missing : (number unit : ℕ) → number ≡ 2 → ascii "- " ≡ unit_text number unit ++ space
-unfolding unit_text pick
-unit-missing number unit e = rw e
-
-pub unit-there : (number unit : ℕ) → (number ≡ 2 → ⊥) → number_column unit ≡ unit_text number unit ++ space
-unfolding unit_text pick
-unit-there number unit e = rw (ne_eqb number 2 e)

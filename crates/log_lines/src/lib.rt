@@ -101,6 +101,7 @@ impl<'a> Text<'a> {
         self.put(b" ");
     }
 
+    #[tactic(auto, using(crate::proofs::Texts::same_text), unfolding(crate::specs::Log::unit_text, fields::specs::Lists::pick))]
     fn put_unit(&mut self, number: u8, unit: u32)
         requires { self.old.end ≤ 128 }
         ensures { Writes 21 self.old (unit_text number unit ++ space) self.new }
@@ -138,6 +139,7 @@ impl<'a> Text<'a> {
         self.put_stamp(a.number, h.stamp);
     }
 
+    #[tactic(auto, using(crate::proofs::Texts::same_text), unfolding(crate::specs::Remarks::shown_byte, fields::specs::Lists::pick))]
     fn put_shown_byte(&mut self, b: u8)
         requires { self.old.end ≤ 1024 }
         ensures { Writes 4 self.old (shown_byte b) self.new }
@@ -147,12 +149,12 @@ impl<'a> Text<'a> {
         } else if (0x20 <= b) & (b <= 0x7E) {
             self.put(&[b]);
         } else {
-            self.put(b"\\x");
-            self.put(&[hex_digit(b / 16), hex_digit(b % 16)]);
+            self.put(&[b'\\', b'x', hex_digit(b / 16), hex_digit(b % 16)]);
         }
     }
 
     // The bytes of a remark as they are shown.
+    #[tactic(auto, using(crate::proofs::Texts::nothing), unfolding(crate::specs::Remarks::shown))]
     fn put_shown(&mut self, bytes: &[u8])
         requires { (self.old.end ≤ 128) × (length bytes.now ≤ 200) }
         ensures { Writes 800 self.old (shown bytes.now) self.new }
@@ -368,6 +370,7 @@ pub fn entry_begins(input: &[u8]) -> bool
 }
 
 // A report's length by its own k and t.
+#[tactic(auto, unfolding(crate::specs::Run::stated_length, fields::specs::Lists::pick))]
 pub fn stated_length(head: &[u8]) -> usize
     ensures value { result ≡ stated_length head.now }
     ensures bounds { (parts_start ≤ result) × (result ≤ text_after most_parts + most_text) }
