@@ -9,7 +9,7 @@ ghost use Rattle.calendar.specs.Calendar.{digit as digit_of};
 ghost use Rattle.rules.specs.Desk.{answer_to};
 ghost use Rattle.report.specs.Report.{most_parts, most_text, parts_start, text_after};
 ghost use Rattle.log_lines.specs.Texts.{Writes, Puts};
-ghost use Rattle.log_lines.specs.Log.{decimal, space, fault_line, set_up_line, unit_text, stamp_text, number_column};
+ghost use Rattle.log_lines.specs.Log.{decimal, space, line_feed, fault_line, set_up_line, unit_text, stamp_text, number_column};
 ghost use Rattle.log_lines.specs.Log.{line_text, header_with, line_with, totals_line};
 ghost use Rattle.log_lines.specs.Remarks.{hex_digit, shown_byte, shown, remark_title, remark_column};
 ghost use Rattle.log_lines.specs.Run.{entry_begins, stated_length, most_counted, one_more, count_answer, progress_after, at_start};
@@ -21,7 +21,7 @@ use report::{MOST_PARTS, MOST_TEXT, PART_SIZE, PARTS_START};
 use rules::Answer;
 
 // The reports accepted clean, accepted with warnings, and refused.
-#[derive(Clone, Copy)]
+#[derive(Clone, Copy, Default)]
 pub struct Totals {
     pub clean: u64,
     pub warned: u64,
@@ -29,7 +29,7 @@ pub struct Totals {
 }
 
 // The lines written so far, and their totals.
-#[derive(Clone, Copy)]
+#[derive(Clone, Copy, Default)]
 pub struct Progress {
     pub lines: u64,
     pub totals: Totals,
@@ -264,26 +264,32 @@ pub fn put_totals(text: &mut [u8], t: Totals) -> usize
     text.end
 }
 
-// What is printed where set-up refuses the roster.
-pub fn put_fault(text: &mut [u8], number: u8) -> usize
-    ensures { Puts 128 text.old (fault_line number) text.new result }
+// A number after a word, on a line of its own.
+fn put_number_line(text: &mut [u8], word: &[u8], n: u64) -> usize
+    requires { length word.now ≤ 64 }
+    ensures { Puts 128 text.old (word.now ++ decimal n ++ line_feed) text.new result }
 {
     let mut text = Text::new(text);
-    text.put(b"roster ");
-    text.put_decimal(number as u64);
+    text.put(word);
+    text.put_decimal(n);
     text.put(b"\n");
     text.end
 }
 
+// What is printed where set-up refuses the roster.
+#[tactic(auto, unfolding(crate::specs::Log::fault_line))]
+pub fn put_fault(text: &mut [u8], number: u8) -> usize
+    ensures { Puts 128 text.old (fault_line number) text.new result }
+{
+    put_number_line(text, b"roster ", number as u64)
+}
+
 // What is printed where set-up has made a register file.
+#[tactic(auto, unfolding(crate::specs::Log::set_up_line))]
 pub fn put_set_up(text: &mut [u8], units: u64) -> usize
     ensures { Puts 128 text.old (set_up_line units) text.new result }
 {
-    let mut text = Text::new(text);
-    text.put(b"units set up: ");
-    text.put_decimal(units);
-    text.put(b"\n");
-    text.end
+    put_number_line(text, b"units set up: ", units)
 }
 
 #[tactic(auto, using(crate::proofs::Counts::saturated))]
@@ -306,20 +312,15 @@ fn count_answer(t: Totals, a: Answer) -> Totals
 {
     Totals {
         clean: counted(t.clean, (a.number == 0) & (a.warnings == 0)),
-        warned: counted(t.warned, (a.number == 0) & !(a.warnings == 0)),
-        refused: counted(t.refused, !(a.number == 0)),
+        warned: counted(t.warned, (a.number == 0) & (a.warnings != 0)),
+        refused: counted(t.refused, a.number != 0),
     }
 }
 
 pub fn at_start() -> Progress
     ensures { result ≡ at_start }
 {
-    let totals = Totals {
-        clean: 0,
-        warned: 0,
-        refused: 0,
-    };
-    Progress { lines: 0, totals }
+    Progress::default()
 }
 
 fn progress_after(so_far: Progress, a: Answer) -> Progress
