@@ -1,6 +1,6 @@
 -- A remark's bytes as they are shown. Assumes nothing.
 use Prim.Native.Nat.{ℕ, suc, ◌+◌, ◌*◌, ◌<◌}
-use mathlib.Core.Path.{◌≡◌, refl, sym}
+use mathlib.Core.Path.{◌≡◌, refl, ap, sym, ◌∙◌}
 use mathlib.Core.List.{List, [], ◌∷◌, ◌++◌, append_assoc, append-nil}
 use native.Mathlib.Omega.{arith}
 use lib.ListN.{length, take, get_or}
@@ -22,7 +22,10 @@ shown-next bytes j v l same =
     let s : j + 1 ≡ suc j = omega arith in
     rw (s, take-suc bytes j 0 l, ← same, shown-append (take j bytes) (v ∷ []), append-nil (shown_byte v))
 
--- one byte more
-pub shown-more : {a b d : Text} {j v : ℕ} (bytes : List ℕ) → j < length bytes → v ≡ get_or bytes j 0
-    → Writes (4 * j) a (shown (take j bytes)) b → Writes 4 b (shown_byte v) d → Writes (4 * (j + 1)) a (shown (take (j + 1) bytes)) d
-shown-more {j = j} {v = v} bytes l same p q = same_text (shown-next bytes j v l same) (omega arith) (then p q)
+-- one byte more, where some text lies before them
+pub shown-more : (m : ℕ) {a b d : Text} {j v : ℕ} (before bytes : List ℕ) → j < length bytes → v ≡ get_or bytes j 0
+    → Writes (m + 4 * j) a (before ++ shown (take j bytes)) b → Writes 4 b (shown_byte v) d
+    → Writes (m + 4 * (j + 1)) a (before ++ shown (take (j + 1) bytes)) d
+shown-more m {j = j} {v = v} before bytes l same p q =
+    same_text (append_assoc before (shown (take j bytes)) (shown_byte v) ∙ ap (λ (z : List ℕ). before ++ z) (shown-next bytes j v l same))
+    (omega arith) (then p q)

@@ -1,5 +1,7 @@
 -- Texts put one after the other, and numbers in decimal. Assumes nothing.
 use Prim.Native.Nat.{ℕ, zero, suc, ◌+◌, ◌*◌, ◌/◌, ◌≤◌, ◌<◌}
+use Rattle.std.proofs.Common.{ap, min, ◌⊎◌, inl, inr}
+use Rattle.std.proofs.Math.Nat.{min-eq_left}
 use mathlib.Core.Path.{◌≡◌, refl, sym, ◌∙◌}
 use mathlib.Core.Bool.{Bool, true, false}
 use mathlib.Core.List.{List, [], ◌∷◌, ◌++◌, append_assoc}
@@ -7,31 +9,35 @@ use native.Mathlib.Omega.{arith}
 use lib.Dec.{ltb}
 use lib.ListN.{length, length-append}
 use borrow.Author.Tests.{lt-ltb, le-ltb}
-use Rattle.fields.specs.Lists.{pick}
-use Rattle.fields.proofs.Bools.{pick-elim}
-use Rattle.fields.proofs.Slices.{put-append, put-nothing}
+use Rattle.fields.specs.Lists.{pick, put}
+use Rattle.fields.proofs.Bools.{pick-elim, lt-or-le}
+use Rattle.fields.proofs.Slices.{put-append, put-past, put-length}
 use Rattle.calendar.specs.Calendar.{digit}
 use Rattle.log_lines.specs.declared.Text.{Text}
-use Rattle.log_lines.specs.Texts.{Writes, Puts}
+use Rattle.log_lines.specs.Texts.{last_place, Writes, Puts}
 use Rattle.log_lines.specs.Log.{decimal_before, decimal}
 use Rattle.log_lines.specs.Run.{most_counted}
 
+-- a place beyond the last one is as good as the last one
+put-in_reach : (s y : List ℕ) (k m : ℕ) → length s ≤ m → put s (min k m) y ≡ put s k y
+put-in_reach s y k m h = by-case (lt-or-le m k) where
+  by-case : (m < k) ⊎ (k ≤ m) → put s (min k m) y ≡ put s k y
+  by-case (inl l) = put-past y s (min k m) (omega (arith, h, l)) ∙ sym (put-past y s k (omega (arith, h, l)))
+  by-case (inr l) = ap (λ (i : ℕ). put s i y) (min-eq_left l)
+
 -- one text and then another
 pub then : {m n : ℕ} {a b d : Text} {x y : List ℕ} → Writes m a x b → Writes n b y d → Writes (m + n) a (x ++ y) d
-then {a = a} {x = x} {y = y} p q = record {
-  same_reference = q.same_reference ∙ p.same_reference;
-  end = q.end ∙ rw (p.end, length-append x y) (omega arith);
-  bytes = q.bytes ∙ rw (p.bytes, p.end) (sym (put-append x y a.bytes.now a.end));
-  upper_bound = rw (length-append x y) (omega (arith, p.upper_bound, q.upper_bound));
-}
-
-pub nothing : {a : Text} → Writes 0 a [] a
-nothing {a = a} = record {
-  same_reference = refl;
-  end = omega arith;
-  bytes = sym (put-nothing a.bytes.now a.end);
-  upper_bound = omega arith;
-}
+then {a = a} {x = x} {y = y} p q =
+    let there = put a.bytes.now a.end x in
+    let same : length there ≤ last_place = rw (put-length a.bytes.now a.end x) p.in_reach in
+    record {
+      same_reference = q.same_reference ∙ p.same_reference;
+      end = q.end ∙ rw (p.end, length-append x y) (omega arith);
+      bytes = q.bytes ∙ rw (p.bytes, p.end)
+          (put-in_reach there y (a.end + length x) last_place same ∙ sym (put-append x y a.bytes.now a.end));
+      upper_bound = rw (length-append x y) (omega (arith, p.upper_bound, q.upper_bound));
+      in_reach = p.in_reach;
+    }
 
 -- a text that equals another, and may be longer
 pub same_text : {m n : ℕ} {a b : Text} {x y : List ℕ} → x ≡ y → m ≤ n → Writes m a x b → Writes n a y b
@@ -40,14 +46,15 @@ same_text e h p = rw (← e) record {
   end = p.end;
   bytes = p.bytes;
   upper_bound = omega (arith, h, p.upper_bound);
+  in_reach = p.in_reach;
 }
 
 -- a whole text, from the start of the buffer
 pub all_put : {n : ℕ} {a b : Text} {x here there : List ℕ} (m : ℕ) → a.bytes.now ≡ here → a.end ≡ 0 → Writes m a x b
-    → there ≡ b.bytes.now → m ≤ n → Puts n here x there b.end
-all_put m at-first from-start p ends h = record {
+    → there ≡ b.bytes.now → m ≤ n → m ≤ 1024 → Puts n here x there b.end
+all_put {x = x} m at-first from-start p ends h less = record {
   upper_bound = rw (p.end, from-start) (omega (arith, p.upper_bound, h));
-  value = p.end ∙ rw from-start (omega arith);
+  value = p.end ∙ rw from-start (omega (arith, p.upper_bound, less));
   text_after = ends ∙ p.bytes ∙ rw (at-first, from-start);
 }
 
@@ -110,4 +117,5 @@ digit-more {a = a} {d = d} {n = n} l h e p q =
       end = all.end;
       bytes = all.bytes;
       upper_bound = decimal-length 20 n [];
+      in_reach = all.in_reach;
     }

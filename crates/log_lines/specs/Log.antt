@@ -31,12 +31,12 @@ hyphen = ascii "-"
 abbrev pub header_text : List ℕ
 header_text = ascii "no unit answer warn part stamp"
 
+abbrev pub log_header : List ℕ
+log_header = header_text ++ line_feed
+
 -- the header of a log with one title more
 abbrev pub header_with : List ℕ → List ℕ
 header_with title = header_text ++ title ++ line_feed
-
-abbrev pub log_header : List ℕ
-log_header = header_with []
 
 -- "A roster fault, an entry cut short being 20, prints only "roster" and its number."
 unfoldable pub fault_line : ℕ → List ℕ
@@ -62,12 +62,12 @@ line_text line s a =
     number_column line ++ (unit_text a.number (head_of s).unit ++ space) ++ number_column a.number ++ number_column a.warnings
     ++ number_column a.part ++ stamp_text a.number (head_of s).stamp
 
+abbrev pub log_line : ℕ → List ℕ → Answer → List ℕ
+log_line line s a = line_text line s a ++ line_feed
+
 -- the line of a log with one column more
 abbrev pub line_with : (List ℕ → List ℕ) → ℕ → List ℕ → Answer → List ℕ
 line_with column line s a = line_text line s a ++ (column s ++ line_feed)
-
-abbrev pub log_line : ℕ → List ℕ → Answer → List ℕ
-log_line = line_with (λ s. [])
 
 abbrev pub is_clean : Answer → Bool
 is_clean a = eqb a.number 0 && eqb a.warnings 0

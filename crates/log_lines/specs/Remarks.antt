@@ -4,7 +4,7 @@ use Rattle.fields.specs.Lists.{pick}
 use Rattle.report.specs.Remark.{remark_of}
 use Rattle.rules.specs.declared.Answer.{Answer}
 use Rattle.fields.specs.Ascii.{ascii}
-use Rattle.log_lines.specs.Log.{header_with, line_with}
+use Rattle.log_lines.specs.Log.{line_feed, header_text, line_text}
 
 -- 0 to 15 as 0 to 9 and a to f
 abbrev pub hex_digit : ℕ → ℕ
@@ -30,7 +30,7 @@ abbrev pub remark_title : List ℕ
 remark_title = ascii " | remark"
 
 abbrev pub remark_line : ℕ → List ℕ → Answer → List ℕ
-remark_line = line_with remark_column
+remark_line line s a = line_text line s a ++ remark_column s ++ line_feed
 
 abbrev pub remarks_header : List ℕ
-remarks_header = header_with remark_title
+remarks_header = header_text ++ remark_title ++ line_feed

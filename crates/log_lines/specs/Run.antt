@@ -11,7 +11,7 @@ use Rattle.log_lines.specs.declared.Totals.{Totals}
 use Rattle.log_lines.specs.declared.Progress.{Progress}
 use Rattle.log_lines.specs.declared.Logged.{Logged}
 use Rattle.log_lines.specs.Log.{is_clean, is_warned, is_refused, totals_of, log_header, line_with, log_line, totals_line, fault_line}
-use Rattle.log_lines.specs.Remarks.{remark_column}
+use Rattle.log_lines.specs.Remarks.{remark_line}
 
 -- "reads roster entries while the mark, both bytes, is 4A 47, at most 8"
 abbrev pub entry_begins : List ℕ → Bool
@@ -62,15 +62,15 @@ progress_after so_far a = record { lines = one_more so_far.lines; totals = count
 abbrev pub at_start : Progress
 at_start = record { lines = 0; totals = record { clean = 0; warned = 0; refused = 0 } }
 
--- the line of a report that comes after others: with a column more, alone, and with its remark
-abbrev pub next_line_with : (List ℕ → List ℕ) → Progress → List ℕ → List ℕ → List ℕ
-next_line_with column so_far register s = line_with column (one_more so_far.lines) s (answer_to register s).answer
-
+-- the line of a report that comes after others: alone, with its remark, and with one column more
 abbrev pub next_line : Progress → List ℕ → List ℕ → List ℕ
-next_line = next_line_with (λ s. [])
+next_line so_far register s = log_line (one_more so_far.lines) s (answer_to register s).answer
 
 abbrev pub next_remark_line : Progress → List ℕ → List ℕ → List ℕ
-next_remark_line = next_line_with remark_column
+next_remark_line so_far register s = remark_line (one_more so_far.lines) s (answer_to register s).answer
+
+abbrev pub next_line_with : (List ℕ → List ℕ) → Progress → List ℕ → List ℕ → List ℕ
+next_line_with column so_far register s = line_with column (one_more so_far.lines) s (answer_to register s).answer
 
 -- the progress, the length of the line that was written, and whether the report was accepted, and ends the run
 abbrev pub logged_at : Progress → Answer → ℕ → Logged
@@ -80,15 +80,15 @@ logged_at progress a n =
 abbrev pub logged_with : List ℕ → Progress → Answer → Logged
 logged_with line so_far a = logged_at (progress_after so_far a) a (length line)
 
+abbrev pub logged_after : Progress → List ℕ → List ℕ → Logged
+logged_after so_far register s = logged_with (next_line so_far register s) so_far (answer_to register s).answer
+
+abbrev pub remark_logged : Progress → List ℕ → List ℕ → Logged
+remark_logged so_far register s = logged_with (next_remark_line so_far register s) so_far (answer_to register s).answer
+
 abbrev pub logged_after_with : (List ℕ → List ℕ) → Progress → List ℕ → List ℕ → Logged
 logged_after_with column so_far register s =
     logged_with (next_line_with column so_far register s) so_far (answer_to register s).answer
-
-abbrev pub logged_after : Progress → List ℕ → List ℕ → Logged
-logged_after = logged_after_with (λ s. [])
-
-abbrev pub remark_logged : Progress → List ℕ → List ℕ → Logged
-remark_logged = logged_after_with remark_column
 
 -- the log step by step: each report's line, then the totals that the steps have counted
 unfoldable pub log_from : Progress → List ℕ → List (List ℕ) → List ℕ

@@ -2,18 +2,21 @@
 // No line is longer than 128 bytes, and none with a remark than 1,024; what a shorter text has no room for is left out.
 #![tactic(auto)]
 
-ghost use Rattle.std.specs.Prelude.{◌≡◌, List, [], ◌++◌, ℕ, ◌+◌, ◌≤◌, ◌<◌, length};
+ghost use Rattle.std.specs.Prelude.{◌≡◌, List, [], ◌++◌, ℕ, ◌+◌, ◌*◌, ◌≤◌, ◌<◌, length};
 ghost use Rattle.std.proofs.Common.{rules};
 ghost use Rattle.fields.specs.Lists.{pick, put};
+ghost use Rattle.fields.specs.Ascii.{ascii};
 ghost use Rattle.calendar.specs.Calendar.{digit as digit_of};
+ghost use Rattle.rules.specs.declared.Answer.{Answer};
 ghost use Rattle.rules.specs.Desk.{answer_to};
+ghost use Rattle.log_lines.specs.declared.Progress.{Progress};
 ghost use Rattle.report.specs.Report.{most_parts, most_text, parts_start, text_after};
 ghost use Rattle.log_lines.specs.Texts.{Writes, Puts};
 ghost use Rattle.log_lines.specs.Log.{decimal, space, line_feed, fault_line, set_up_line, unit_text, stamp_text, number_column};
-ghost use Rattle.log_lines.specs.Log.{line_text, header_with, line_with, totals_line};
-ghost use Rattle.log_lines.specs.Remarks.{hex_digit, shown_byte, shown, remark_title, remark_column};
+ghost use Rattle.log_lines.specs.Log.{line_text, log_header, header_with, log_line, line_with, totals_line};
+ghost use Rattle.log_lines.specs.Remarks.{hex_digit, shown_byte, shown, remark_title, remark_column, remark_line, remarks_header};
 ghost use Rattle.log_lines.specs.Run.{entry_begins, stated_length, most_counted, one_more, count_answer, progress_after, at_start};
-ghost use Rattle.log_lines.specs.Run.{logged_at, logged_after_with, next_line_with, log_from, log_of, shift_log};
+ghost use Rattle.log_lines.specs.Run.{logged_at, logged_after, remark_logged, logged_after_with, next_line_with, log_from, log_of, shift_log};
 ghost use Rattle.log_lines.specs.RosterA.{stream_a, log_a};
 
 use quantities::Minute;
@@ -44,7 +47,7 @@ pub struct Logged {
     pub ends: bool,
 }
 
-// A text that is put piece by piece, from the start of the bytes; `end` is the place after it, and counts what was left out.
+// A text that is put piece by piece from the start of the bytes. `end` is the place after it, and counts what was left out as well.
 #[derive(Drop)]
 pub struct Text<'a> {
     bytes: &'a mut [u8],
@@ -75,16 +78,14 @@ impl<'a> Text<'a> {
     }
 
     fn put(&mut self, word: &[u8])
-        requires { self.old.end + length word.now ≤ 2048 }
         ensures { Writes (length word.now) self.old word.now self.new }
     {
         fields::put_bytes(self.bytes, self.end, word);
-        self.end += word.len();
+        self.end = self.end.saturating_add(word.len());
     }
 
-    // By hand: a clause knows what `write!` makes only where it answers Ok, and a log's text always is put.
+    // By hand: `write!` promises its text only where it answers Ok, and the kit's `itoa` would be one more crate to trust.
     fn put_decimal(&mut self, n: u64)
-        requires { self.old.end ≤ 256 }
         ensures { Writes 20 self.old (decimal n) self.new }
     {
         if n >= 10 {
@@ -94,7 +95,6 @@ impl<'a> Text<'a> {
     }
 
     fn put_number(&mut self, n: u64)
-        requires { self.old.end ≤ 128 }
         ensures { Writes 21 self.old (number_column n) self.new }
     {
         self.put_decimal(n);
@@ -103,7 +103,6 @@ impl<'a> Text<'a> {
 
     #[tactic(auto, using(crate::proofs::Texts::same_text), unfolding(crate::specs::Log::unit_text, fields::specs::Lists::pick))]
     fn put_unit(&mut self, number: u8, unit: u32)
-        requires { self.old.end ≤ 128 }
         ensures { Writes 21 self.old (unit_text number unit ++ space) self.new }
     {
         if number == 2 {
@@ -116,7 +115,6 @@ impl<'a> Text<'a> {
     // The date, or "-".
     #[tactic(auto, using(crate::proofs::Texts::same_text), unfolding(crate::specs::Log::stamp_text, fields::specs::Lists::pick))]
     fn put_stamp(&mut self, number: u8, stamp: Minute)
-        requires { self.old.end ≤ 128 }
         ensures { Writes 16 self.old (stamp_text number stamp) self.new }
     {
         match calendar::print_date(stamp) {
@@ -127,7 +125,6 @@ impl<'a> Text<'a> {
 
     // The columns that every log has. The answer comes as `told` has it: each column is one of its numbers.
     fn put_columns(&mut self, line: u64, report: &[u8], a: Answer)
-        requires { self.old.end ≡ 0 }
         ensures { Writes 121 self.old (line_text line report.now a) self.new }
     {
         let h = reader::line_head(report);
@@ -141,7 +138,6 @@ impl<'a> Text<'a> {
 
     #[tactic(auto, using(crate::proofs::Texts::same_text), unfolding(crate::specs::Remarks::shown_byte, fields::specs::Lists::pick))]
     fn put_shown_byte(&mut self, b: u8)
-        requires { self.old.end ≤ 1024 }
         ensures { Writes 4 self.old (shown_byte b) self.new }
     {
         if b == b'\\' {
@@ -153,19 +149,19 @@ impl<'a> Text<'a> {
         }
     }
 
-    // The bytes of a remark as they are shown.
-    #[tactic(auto, using(crate::proofs::Texts::nothing), unfolding(crate::specs::Remarks::shown))]
-    fn put_shown(&mut self, bytes: &[u8])
-        requires { (self.old.end ≤ 128) × (length bytes.now ≤ 200) }
-        ensures { Writes 800 self.old (shown bytes.now) self.new }
+    // A bar, and the bytes of a remark as they are shown.
+    #[tactic(auto, unfolding(crate::specs::Remarks::shown))]
+    fn put_shown(&mut self, remark: &[u8])
+        ensures { Writes (3 + 4 * length remark.now) self.old (ascii " | " ++ shown remark.now) self.new }
     {
-        for b in bytes {
+        self.put(b" | ");
+        for b in remark {
             self.put_shown_byte(*b);
         }
     }
 }
 
-// What a log shows beside the columns that every log has: their title, and of a report what is put after its stamp.
+// What a log has beside the columns of every log: the title, and what follows a report's stamp.
 pub trait Lines {
     ghost title: { List ℕ };
 
@@ -179,7 +175,6 @@ pub trait Lines {
         ensures upper_bound { length result.now ≤ 97 };
 
     fn put_column(text: &mut Text, report: &[u8])
-        requires { text.old.end ≤ 121 }
         ensures { Writes room text.old (column report.now) text.new };
 
     // no line is longer than 1,024 bytes
@@ -200,8 +195,9 @@ impl Lines for Plain {
         b""
     }
 
-    #[tactic(auto, using(crate::proofs::Texts::nothing))]
-    fn put_column(text: &mut Text, report: &[u8]) {}
+    fn put_column(text: &mut Text, report: &[u8]) {
+        text.put(b"");
+    }
 
     ghost bounded = { Prim.search rules };
 }
@@ -221,7 +217,6 @@ impl Lines for WithRemarks {
     }
 
     fn put_column(text: &mut Text, report: &[u8]) {
-        text.put(b" | ");
         match report::remark(report, b"no remark") {
             Ok(found) => text.put_shown(found),
             Err(refused) => text.put_shown(refused.stretch),
@@ -231,6 +226,7 @@ impl Lines for WithRemarks {
     ghost bounded = { Prim.search rules };
 }
 
+// This and the functions below answer with the length of the whole text, which a part of a shorter buffer could not say.
 pub fn put_header<L: Lines>(text: &mut [u8]) -> usize
     ensures { Puts 128 text.old (header_with L.title) text.new result }
 {
@@ -384,6 +380,16 @@ pub fn stated_length(head: &[u8]) -> usize
         PARTS_START
     }
 }
+
+// What is promised of a log with one column more is promised of the log and of the log with remarks.
+pub fn both_logs_are_instances()
+    ensures header { header_with ⟦<Plain as Lines>⟧.title ≡ log_header }
+    ensures line { (n : ℕ) (s : List ℕ) (a : Answer) → line_with ⟦<Plain as Lines>⟧.column n s a ≡ log_line n s a }
+    ensures logged { (so_far : Progress) (register s : List ℕ) → logged_after_with ⟦<Plain as Lines>⟧.column so_far register s ≡ logged_after so_far register s }
+    ensures remarks_header { header_with ⟦<WithRemarks as Lines>⟧.title ≡ remarks_header }
+    ensures remark_line { (n : ℕ) (s : List ℕ) (a : Answer) → line_with ⟦<WithRemarks as Lines>⟧.column n s a ≡ remark_line n s a }
+    ensures remark_logged { (so_far : Progress) (register s : List ℕ) → logged_after_with ⟦<WithRemarks as Lines>⟧.column so_far register s ≡ remark_logged so_far register s }
+{}
 
 // The lines and totals that the steps write for a list of reports are those of the definition's answers: the totals count them.
 pub fn totals_count_the_answers()

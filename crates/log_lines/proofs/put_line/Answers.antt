@@ -5,4 +5,4 @@ use Rattle.log_lines.proofs.put_line.Goals as goal
 pub returns : goal.returns
 returns g c =
     let new = c.new-text.ensures in
-    all_put _ new.bytes new.end (then c.put_columns.ensures (then c.put_column.ensures c.put.ensures)) (search rules) (omega arith)
+    all_put _ new.bytes new.end (then c.put_columns.ensures (then c.put_column.ensures c.put.ensures)) (search rules) (omega arith) (omega (arith, g.met.L.Lines.bounded))

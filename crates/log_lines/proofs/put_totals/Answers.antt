@@ -8,4 +8,4 @@ unfolding totals_line
 returns c =
     let new = c.new-text.ensures in
     let accepted = then (then c.put.ensures c.put_number.ensures) c.put_number-2.ensures in
-    all_put _ new.bytes new.end (then (then accepted c.put_decimal.ensures) c.put-2.ensures) (search rules) (omega arith)
+    all_put _ new.bytes new.end (then (then accepted c.put_decimal.ensures) c.put-2.ensures) (search rules) (omega arith) (omega arith)
