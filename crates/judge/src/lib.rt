@@ -76,7 +76,8 @@ fn record_at(b: &[u8], i: u8) -> Record
     block::record_in(block::slot_at(b, i))
 }
 
-// The record in slot i, if the slot is used.
+// The record in slot i, if the slot is used. Inlined, so that callers read of it what they ask for and no record is copied.
+#[inline(always)]
 #[tactic(auto, unfolding(crate::specs::Survey::used_record, fields::specs::Lists::pick))]
 fn used_record(b: &[u8], i: u8) -> Option<Record>
     ensures { result ≡ used_record b.now i }
