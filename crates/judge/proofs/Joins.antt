@@ -17,15 +17,8 @@ use lib.ListN.{length, get_or}
 use lib.Dec.{ltb, eqb}
 use Rattle.fields.specs.Lists.{pick, all, series, seek}
 use Rattle.fields.proofs.Tests.{series-length, series-at}
-use Rattle.report.specs.declared.Head.{Head}
-use Rattle.rules.specs.declared.PowerRange.{PowerRange}
-use Rattle.rules.specs.declared.UnitHead.{UnitHead}
-use Rattle.rules.specs.Codes.{is_levelled}
-use Rattle.rules.specs.Minutes.{FullRecord, records_among, question17, levels_fit, levels_every}
+use Rattle.rules.specs.Minutes.{records_among}
 use Rattle.rules.specs.Block.{slot_count, slot_numbered}
-use Rattle.rules.specs.Questions.{range_of}
-use Rattle.rules.specs.Judge.{skips, must}
-use Rattle.judge.specs.declared.SlotAnswers.{SlotAnswers}
 
 -- what `find` gives over the slots' numbers, and `any`
 found-is : (test : ℕ → Bool) (i n : ℕ) → find test (range_with_len i n) ≡ pick (ltb (seek test i n) (i + n)) (Some (seek test i n)) None

@@ -1,5 +1,5 @@
 -- What is decided of a report before anything is written.
-use Rattle.std.specs.Prelude.{ℕ, List, Bool, true, not, ◌||◌, eqb, map, Option, None, Result, Ok, ⊤}
+use Rattle.std.specs.Prelude.{ℕ, List, Bool, true, not, ◌||◌, eqb, map, Option, None, Result, Ok, Err, ⊤}
 use Rattle.std.specs.List.{list_any, list_all}
 use Rattle.std.specs.Option.{is_some}
 use Rattle.fields.specs.Lists.{pick, series}
@@ -14,7 +14,7 @@ use Rattle.rules.specs.Block.{slot_count, slot_numbered}
 use Rattle.rules.specs.Questions.{creation_head, changes_state, leaves, question10, question13, question14, question18}
 use Rattle.rules.specs.Minutes.{question17}
 use Rattle.rules.specs.After.{rewrites, slot_written, cleared, some_slot}
-use Rattle.rules.specs.Judge.{must, refusal_number}
+use Rattle.rules.specs.Judge.{must, part_beside, refusal_number}
 use Rattle.levels.specs.Counted.{swept_records}
 use Rattle.validation.specs.FirstNo.{◌then◌}
 use Rattle.judge.specs.declared.Decision.{Decision}
