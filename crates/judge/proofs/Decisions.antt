@@ -34,7 +34,8 @@ use Rattle.validation.specs.Parts.{validated_of}
 use Rattle.judge.specs.declared.SlotAnswers.{SlotAnswers}
 use Rattle.judge.specs.Survey.{holder_of, slot_answers, answers_at, survey_of, free_among}
 use Rattle.judge.specs.Decided.{written_by, holder_asked, limits_asked, limits_by, limits_decided, surveyed_decision, accepted_decision, decision_of}
-use Rattle.judge.proofs.Joins.{records-same, any-passes}
+use Rattle.levels.proofs.Ranges.{range-any}
+use Rattle.judge.proofs.Joins.{records-same}
 
 -- questions 10 to 14, and 15 to 19, asked by number and as code asks them
 module _ (h : Head) (ps : List Part) {A : Type 0} (value : A) where
@@ -54,11 +55,6 @@ module _ (h : Head) (ps : List Part) {A : Type 0} (value : A) where
       (link h ps value 18 _ _ refl refl))))
 
 -- the slots of the block and the report
-map-series : {A B : Type 0} (f : A → B) (g : ℕ → A) (i n : ℕ) → map f (series g i n) ≡ series (λ j. f (g j)) i n
-unfolding series
-map-series f g i zero = refl
-map-series f g i (suc n) = rw (map-series f g (i + 1) n)
-
 series-same : {A : Type 0} (f g : ℕ → A) (i n : ℕ) → ((j : ℕ) → j < i + n → f j ≡ g j) → series f i n ≡ series g i n
 unfolding series
 series-same f g i zero h = refl
@@ -125,14 +121,16 @@ module _ (b s : List ℕ) where
       (not (stays b s 5)) (not (stays b s 6)) (not (stays b s 7))
 
   left_is : list_any (λ a. a.leaves) (series answered 0 slot_count) ≡ some_slot (leaves b s)
-  unfolding some_slot
-  left_is = any-passes (λ (a : SlotAnswers). a.leaves) answered 0 slot_count
+  unfolding some_slot series
+  left_is = range-any (leaves b s) 0 slot_count
 
   others_are : map (λ a. a.other) (series answered 0 slot_count) ≡ series (other b s) 0 slot_count
-  others_are = map-series (λ (a : SlotAnswers). a.other) answered 0 slot_count
+  unfolding series
+  others_are = refl
 
   cleared_are : map (λ a. a.cleared) (series answered 0 slot_count) ≡ series (cleared b s) 0 slot_count
-  cleared_are = map-series (λ (a : SlotAnswers). a.cleared) answered 0 slot_count
+  unfolding series
+  cleared_are = refl
 
   flag_at : (f : ℕ → Bool) (j : ℕ) → j < 8 → get_or (series f 0 8) j false ≡ f j
   flag_at f j l = series-at f 0 8 j false l ∙ ap f (zero-add j)

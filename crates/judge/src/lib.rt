@@ -399,6 +399,7 @@ fn used_slots(b: &[u8]) -> [bool; 8]
     std::array::from_fn(|i: usize| block::is_used(block::slot_at(b, i as u8)))
 }
 
+#[tactic(auto, unfolding(fields::specs::Lists::pick))]
 fn worth_of(n: u8, t: bool) -> u8
     ensures { (result ≡ worth n t) × (result ≤ n) }
 {
@@ -406,6 +407,7 @@ fn worth_of(n: u8, t: bool) -> u8
 }
 
 // Warnings 2 and 4.
+#[tactic(auto, unfolding(rules::specs::After::warns_minute, fields::specs::Lists::pick))]
 fn minute_warnings(after: &[u8], h: Head) -> u8
     ensures { (result ≡ minute_warnings after.now h) × (result ≤ 6) }
 {
@@ -420,6 +422,7 @@ fn minute_warnings(after: &[u8], h: Head) -> u8
 }
 
 // The warnings of an accepted report, on the block afterwards; `left`: some record left.
+#[tactic(auto, unfolding(crate::specs::Warned::warnings_on, fields::specs::Lists::pick))]
 pub fn warnings_on(after: &[u8], h: Head, left: bool) -> u8
     ensures { result ≡ warnings_on after.now h left }
 {

@@ -21,7 +21,7 @@ use Rattle.levels.specs.declared.Lanes.{Lanes}
 use Rattle.levels.specs.declared.Limits.{Limits}
 use Rattle.levels.specs.declared.SweepResult.{SweepResult}
 use Rattle.levels.specs.Lanes.{lane_count, lane_levels}
-use Rattle.levels.specs.Extremes.{CoversIfSome, CoversType, highest_of, common, joined_with, with_unfit, MinuteIn, Asks, AsksType}
+use Rattle.levels.specs.Extremes.{CoversIfSome, CoversType, highest_of, common, joined_with, MinuteIn, Asks, AsksType}
 use Rattle.levels.specs.Gathered.{GathersLanes}
 use Rattle.levels.specs.Result.{found_in}
 use Rattle.levels.proofs.Gathered.{gathered}
@@ -30,7 +30,7 @@ use Rattle.levels.proofs.Turns.{found-same}
 
 -- a pair that passes, or whose minutes are asked
 module _ (answers : Kilowatt → Bool → Type 0) (h r : Period) (from : Minute) (p : Pair) (t : Bool) (tested : answers p.power t)
-    (joined : r ≡ with_unfit h from p.end t)
+    (joined : r ≡ pick t h (joined_with h from p.end))
   where
     wide : (k : ℕ) → MinuteIn h k → MinuteIn r k
     unfolding pick
@@ -55,7 +55,7 @@ module _ (answers : Kilowatt → Bool → Type 0) (h r : Period) (from : Minute)
 -- the lanes of a type
 module _ (ls : Lanes) (type : ℕ) (period : Period) (answers : Kilowatt → Bool → Type 0) {step : Period → Minute → Pair → Period → Type 0}
     (is : (h : Period) (from : Minute) (p : Pair) (r : Period) → step h from p r
-    → (t : Bool) × answers p.power t × (r ≡ with_unfit h from p.end t))
+    → (t : Bool) × answers p.power t × (r ≡ pick t h (joined_with h from p.end)))
   where
     pub lanes-asked : (h r : Period) → GathersLanes step ls type period 0 lane_count h r → AsksType ls type period (λ p. answers p true) r
     lanes-asked h r g = record {

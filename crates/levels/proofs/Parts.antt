@@ -31,40 +31,48 @@ module _ {f : ℕ → Pair} {n j m : ℕ} (h : Passed f n j m) where
   pub passed_later : {k : ℕ} → m ≤ k → Passed f n j k
   passed_later l = record { most = h.most; rest = λ k a. h.rest k (omega arith) }
 
-  pub passed-more : {p : Pair} → j < n → p ≡ f j → p.end.0 ≤ m → Passed f n (j + 1) m
+  pub passed-more : j < n → (f j).end.0 ≤ m → Passed f n (j + 1) m
   unfolding level_among_pairs pick
-  passed-more {p} l q o =
-      let ends : p.end.0 ≡ (f j).end.0 = ap (λ (x : Pair). x.end.0) q in
-      record { most = omega arith; rest = λ k a. h.rest k a ∙ rw (series-more f j n l, le-ltb k (f j).end.0 (omega arith)) }
+  passed-more l o = record {
+    most = omega arith;
+    rest = λ k a. h.rest k a ∙ rw (series-more f j n l, le-ltb k (f j).end.0 (omega arith));
+  }
 
-  pub stepped-hit : {p : Pair} → j < n → p ≡ f j → m < p.end.0 → Stepped f n m (level_among_pairs (series f 0 n)) (record {
-    span = record { level = Some p.power; until = p.end };
+  pub stepped-hit : j < n → m < (f j).end.0 → Stepped f n m (level_among_pairs (series f 0 n)) (record {
+    span = record { level = Some (f j).power; until = (f j).end };
     place = j;
   })
   unfolding level_among_pairs pick
-  stepped-hit {p} l q o =
-      let ends : p.end.0 ≡ (f j).end.0 = ap (λ (x : Pair). x.end.0) q in
-      record {
-        stays = record {
-          later = o;
-          same = λ k a b. h.rest k a ∙ rw (series-more f j n l, lt-ltb k (f j).end.0 (omega arith), q);
-        };
-        passed = h;
-        ends = λ t. omega arith;
-      }
+  stepped-hit l o = record {
+    stays = record { later = o; same = λ k a b. h.rest k a ∙ rw (series-more f j n l, lt-ltb k (f j).end.0 (omega arith)) };
+    passed = h;
+    ends = λ t. o;
+  }
 
-  pub stepped-all : {far : Minute} → n ≤ j → m < far.0
-      → Stepped f n m (level_among_pairs (series f 0 n)) (record { span = record { level = None; until = far }; place = n })
+  pub stepped-all : {far : Minute} → j ≡ n → m < far.0
+      → Stepped f n m (level_among_pairs (series f 0 n)) (record { span = record { level = None; until = far }; place = j })
   unfolding level_among_pairs series
-  stepped-all {far} l o =
-      let most = h.most in
+  stepped-all e o =
       let t : n - j ≡ 0 = omega arith in
-      let k : j ≡ n = omega arith in
       record {
         stays = record { later = o; same = λ k a b. h.rest k a ∙ rw t };
-        passed = rw k at h;
+        passed = h;
         ends = λ t. absurd (false≢true t);
       }
+
+passed-all : {f : ℕ → Pair} {n m : ℕ} (j d : ℕ) → Passed f n j m → j + d ≤ n → ((k : ℕ) → j ≤ k → k < j + d → (f k).end.0 ≤ m)
+    → Passed f n (j + d) m
+passed-all j zero h o e = (let k : j + 0 ≡ j = omega arith in rw k h)
+passed-all j (suc d) h o e =
+    let i : j + suc d ≡ j + 1 + d = omega arith in
+    rw i
+    (passed-all (j + 1) d (passed-more h (omega arith) (e j (omega arith) (omega arith))) (omega arith) (λ k a b. e k (omega arith) (omega arith)))
+
+pub passed-upto : {f : ℕ → Pair} {n j m : ℕ} → Passed f n j m → (i : ℕ) → j ≤ i → i ≤ n → ((k : ℕ) → j ≤ k → k < i → (f k).end.0 ≤ m)
+    → Passed f n i m
+passed-upto {j = j} h i a b e =
+    let k : j + (i - j) ≡ i = omega arith in
+    rw k at (passed-all j (i - j) h (omega arith) (λ k a b. e k a (omega arith)))
 
 -- a lane: before its start, from its end on, and between
 module _ (lane : Lane) (f : ℕ → Pair) {m place : ℕ} (h : Passed f lane.count place m) where

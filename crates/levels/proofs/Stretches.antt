@@ -51,7 +51,7 @@ module _ {until : ℕ} {first : Option Place} where
       → Stays (place_level first) m (span_at at)
   walked-stays None w l o = record { later = o; same = λ k a b. sym (w.same k) }
   walked-stays (Some p) {m} w l o =
-      holds_by (stepped-hit w.ahead.passed (place-less w.ahead.passed (w.ahead.there m (omega arith) l)) refl o).stays
+      holds_by (stepped-hit w.ahead.passed (place-less w.ahead.passed (w.ahead.there m (omega arith) l)) o).stays
       (λ k. sym (w.same k))
 
   on-pair : (at : Option Place) {m : ℕ} → Walked until first at m → m < until → IfSome at (λ p. p.place < p.count)
@@ -68,7 +68,7 @@ module _ {until : ℕ} {first : Option Place} where
         ahead = record {
           there = λ k a b. w.ahead.there k (omega arith) b;
           passed = pick-elim (λ (j : ℕ). Passed (pairs_of p.pairs) p.count j n) (leb (pairs_of p.pairs p.place).end.0 n)
-              (λ t. passed-more later (place-less w.ahead.passed (w.ahead.there m (omega arith) l)) refl
+              (λ t. passed-more later (place-less w.ahead.passed (w.ahead.there m (omega arith) l))
               (leb-true (pairs_of p.pairs p.place).end.0 n t))
               (λ t. later);
         };

@@ -1,7 +1,7 @@
 -- The lowest and the highest power of a type's lanes in a period: where these fit, every minute does.
 use Rattle.std.specs.Prelude.{ℕ, ◌≤◌, ◌<◌, ◌≡◌, Bool, false, not, ◌&&◌, ◌||◌, List, eqb, get_or, min, max, Option, None, Some, option_map, ◌⊎◌}
 use Rattle.std.specs.Option.{IfSome}
-use Rattle.fields.specs.Lists.{pick, all, series}
+use Rattle.fields.specs.Lists.{all, series}
 use Rattle.quantities.specs.declared.Kilowatt.{Kilowatt}
 use Rattle.quantities.specs.declared.Minute.{Minute}
 use Rattle.quantities.specs.declared.Period.{Period}
@@ -81,9 +81,6 @@ joined_with h from to = record {
   start = record { 0 = min h.start.0 from.0 };
   end = record { 0 = max h.end.0 to.0 };
 }
-
-abbrev pub with_unfit : Period → Minute → Minute → Bool → Period
-with_unfit h from to fit = pick fit h (joined_with h from to)
 
 pub record MinuteIn (h : Period) (k : ℕ) : Type 0 where
   pub from : h.start.0 ≤ k

@@ -9,7 +9,7 @@ ghost use Rattle.levels.specs.Pairs.{pairs_of, level_among_pairs, Passed};
 ghost use Rattle.levels.specs.Counted.{counted_records, swept_records};
 ghost use Rattle.levels.specs.Lanes.{lane_count, lane_of, report_lane, slot_lane, lane_at, lane_pair, lane_level, lane_levels, Stepped, Placed, Held, Chosen, chosen_levels, span_at, moved, soonest, Ready};
 ghost use Rattle.levels.specs.Result.{with_span, both_found, found_in, Ran};
-ghost use Rattle.levels.specs.Extremes.{some_of_type, type_counts, types_meet, LaneWithin, with_power, CoversType, highest_of, extremes_fit, common, with_unfit, AsksType};
+ghost use Rattle.levels.specs.Extremes.{some_of_type, type_counts, types_meet, LaneWithin, with_power, CoversType, highest_of, extremes_fit, common, joined_with, AsksType};
 ghost use Rattle.levels.specs.Gathered.{GathersPairs, GathersLanes};
 ghost use Rattle.rules.specs.Codes.{forced_work};
 ghost use Rattle.levels.specs.Within.{power_within, pairs_within, slot_within, forced_within, level_warnings};
@@ -144,26 +144,23 @@ impl<'a> Source<'a> {
         }
     }
 
-    // The power of the first pair that ends after the minute; it stays up to that end. By number: pairs are read one by one, of bytes.
+    // The power of the first pair that ends after the minute; it stays up to that end.
     fn step_among(self, count: u16, place: u16, m: Minute) -> LaneSpan
         requires m_bound { m.0 < 4294967295 }
         requires passed { Passed (pairs_of self) count place m.0 }
         ensures { Stepped (pairs_of self.entry) count m.0 (level_among_pairs (series (pairs_of self.entry) 0 count)) result }
     {
-        for j in place..count {
-            let pair = self.pair(j);
-            let until = pair.end;
-            if m < until {
-                let level = Some(pair.power);
-                let span = LevelSpan { level, until };
-                return LaneSpan { span, place: j };
-            }
-        }
-        let span = LevelSpan {
-            level: None,
-            until: LAST,
+        let Some(place) = (place..count).find(|j| m < self.pair(*j).end) else {
+            let span = level_at(None);
+            return LaneSpan { span, place: count };
         };
-        LaneSpan { span, place: count }
+        let at = Place {
+            pairs: self,
+            count,
+            place,
+        };
+        let span = level_at(Some(at));
+        LaneSpan { span, place }
     }
 
     // The level of a lane with these pairs.
@@ -212,7 +209,7 @@ impl<'a> Source<'a> {
     }
 
     // What a closure makes of a lane's pairs in turn; it is told the minute at which a pair's own begin, where the one before it ends.
-    // By number, as in `step_among`.
+    // By number: a fold would carry that minute beside what is gathered, and be no plainer.
     fn gather<G: Copy, F: Fn(G, Minute, Pair) -> G + Copy>(
         self,
         lane: Lane,
@@ -476,7 +473,11 @@ impl<'a> Lanes<'a> {
             period,
             none,
             |asked: Period, from: Minute, pair: Pair| {
-                with_unfit(asked, from, pair.end, passes(pair.power))
+                if passes(pair.power) {
+                    asked
+                } else {
+                    joined_with(asked, from, pair.end)
+                }
             },
         )
     }
@@ -707,13 +708,10 @@ fn with_power(e: Extremes, power: Kilowatt) -> Extremes
     }
 }
 
-// The minutes to be asked, with those of a pair whose level does not fit.
-fn with_unfit(asked: Period, from: Minute, to: Minute, fit: bool) -> Period
-    ensures { result ≡ with_unfit asked from to fit }
+// With the minutes of a pair whose level does not fit, and those between.
+fn joined_with(asked: Period, from: Minute, to: Minute) -> Period
+    ensures { result ≡ joined_with asked from to }
 {
-    if fit {
-        return asked;
-    }
     Period {
         start: asked.start.min(from),
         end: asked.end.max(to),

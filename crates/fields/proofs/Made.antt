@@ -1,20 +1,20 @@
--- What `from_fn` makes by a call for each number. Assumes nothing.
+-- An array made element by element. Assumes nothing.
 use Prim.Native.Nat.{ℕ, zero, suc, ◌+◌, ◌≤◌, ◌<◌}
-use Rattle.std.specs.Array.{IsFromFnResult, IsFromFnResultFrom}
-use Rattle.std.specs.Fn.{Mut, Called}
-use Rattle.std.proofs.lemmas.List.{same_lists}
-use borrow.Author.Tests.{eqb-true, eqb-false}
+use native.Mathlib.Omega.{arith}
+use native.Mathlib.Nat.{zero-add}
 use mathlib.Core.Path.{◌≡◌, refl, ap, sym, subst, ◌∙◌}
 use mathlib.Core.Bool.{Bool, true, false}
 use mathlib.Core.List.{List}
-use native.Mathlib.Omega.{arith}
-use native.Mathlib.Nat.{zero-add}
 use lib.ListN.{length, get_or}
 use lib.Dec.{eqb}
+use borrow.Author.Tests.{eqb-true, eqb-false}
+use Rattle.std.specs.Array.{IsFromFnResult, IsFromFnResultFrom}
+use Rattle.std.specs.Fn.{Mut, Called}
+use Rattle.std.proofs.lemmas.List.{same_lists}
 use Rattle.fields.specs.Lists.{series}
-use Rattle.fields.proofs.Tests.{series-length, series-at}
+use Rattle.fields.proofs.Tests.{series-at, series-length}
 
--- The closure is f at every call, and gives k i at i.
+-- what a call for each number makes, where calls leave the closure as it is
 module _ {F B : Type 0} {g : Mut F (ℕ × Unit {0}) B} {f : F} (ys : List B) (k : ℕ → B) (n : ℕ)
     (calls : (i : ℕ) (y : B) (q : F) → i < n → Called g f (i, tt) y q → (q ≡ f) × (y ≡ k i)) where
   made-at : (i m : ℕ) → i + m ≤ n → IsFromFnResultFrom g f ys i m → (j : ℕ) (d : B) → i ≤ j → j < i + m → get_or ys j d ≡ k j
