@@ -9,7 +9,7 @@ ghost use Rattle.rules.specs.After.{put_row, pair_bytes, slot_bytes};
 ghost use Rattle.rules.specs.Block.{pairs_start, slot_size, block_size};
 ghost use Rattle.after.specs.Plan.{slot_made, row_planned, head_made, slots_planned, plan_applied};
 
-use block::{BLOCK_SIZE, HEAD_SIZE, Pair, SLOT_COUNT, SLOT_SIZE};
+use block::{BLOCK_SIZE, HEAD_SIZE, Pair, SLOT_SIZE};
 use quantities::Minute;
 use report::{Head, MOST_PARTS};
 use rules::Row;
@@ -69,14 +69,10 @@ impl Accepted<'_> {
         requires { length b.old ≡ block_size }
         ensures { b.new ≡ slots_planned b.old self.now.report.now plan }
     {
-        for i in 0..SLOT_COUNT {
-            let a = HEAD_SIZE + SLOT_SIZE * (i as usize);
+        for (i, cleared) in plan.cleared.iter().enumerate() {
+            let a = HEAD_SIZE + SLOT_SIZE * i;
             let e = a + SLOT_SIZE;
-            self.set_slot(
-                &mut b[a..e],
-                Some(i) == plan.written,
-                plan.cleared[i as usize],
-            );
+            self.set_slot(&mut b[a..e], Some(i as u8) == plan.written, *cleared);
         }
     }
 
