@@ -5,7 +5,7 @@ use lib.ListN.{length}
 use native.Mathlib.Omega.{arith}
 use Rattle.rules.specs.Block.{slot_size, head_size, block_size}
 use Rattle.after.proofs.Blocks.{progress-none, progress-length, progress-all, slot-turned, lent_length}
-use Rattle.after.proofs.set_slots.Goals as goal
+use Rattle.after.proofs.Accepted.set_slots.Goals as goal
 
 pub loop-i-init : goal.loop-i-init
 loop-i-init c = (omega arith, omega arith, progress-none _ _ _ (omega arith))
@@ -13,15 +13,12 @@ loop-i-init c = (omega arith, omega arith, progress-none _ _ _ (omega arith))
 pub set_slot-requires : goal.set_slot-requires
 set_slot-requires c =
     let here = c.loop-i in
-    record {
-      z_len = lent_length here.b (head_size + slot_size * here.i) slot_size (omega arith);
-      few_parts = omega arith;
-    }
+    lent_length here.b (head_size + slot_size * here.i) slot_size (omega arith)
 
 pub loop-i-preserved : goal.loop-i-preserved
 loop-i-preserved c =
     let b = c.args.b.now in
-    let report = c.args.report.now in
+    let report = c.args.self.now.report.now in
     let size : length b ≡ block_size = omega arith in
     let few : part_count_of report ≤ most_parts = omega arith in
     let e =

@@ -1,6 +1,6 @@
 use Rattle.after.proofs.Written.{made-written, made_kept, made-zeros}
 use native.Mathlib.Omega.{arith}
-use Rattle.after.proofs.set_slot.Goals as goal
+use Rattle.after.proofs.Accepted.set_slot.Goals as goal
 
 pub returns-then-written : goal.returns-then-written
 returns-then-written c = made-written _ _ _ c.if-written.true c.write_slot.ensures
