@@ -24,7 +24,6 @@ use Rattle.rules.specs.Desk.{block_at, with_block, question3, answer_to}
 use Rattle.judge.specs.declared.Decision.{Decision}
 use Rattle.judge.specs.Decided.{accepted_decision, decision_of}
 use Rattle.judge.specs.Warned.{warnings_on}
-use Rattle.judge.proofs.Outcomes.{decided-by-number}
 use Rattle.judge.proofs.Warnings.{warnings-same}
 use Rattle.after.specs.Plan.{FreeSlots, plan_applied}
 use Rattle.after.proofs.Plans.{plan_after}
@@ -52,16 +51,16 @@ module _ (b s : List ℕ) {d : Result Decision Refusal} (decided : d ≡ decisio
   first-refusal = record { number = refusal_number b s; part = part_beside (refusal_number b s) (head_of s) (parts_of s) }
 
   stopped : {x : Refusal} → d ≡ Err x → (eqb (refusal_number b s) 0 ≡ false) × (x ≡ first-refusal)
-  unfolding pick first-refusal
-  stopped {x} e = by-case (eqb (refusal_number b s) 0) refl (sym (decided-by-number b s) ∙ sym decided ∙ e) where
+  unfolding decision_of pick first-refusal
+  stopped {x} e = by-case (eqb (refusal_number b s) 0) refl (sym decided ∙ e) where
     by-case : (t : Bool) → eqb (refusal_number b s) 0 ≡ t → pick t (Ok (accepted_decision b s)) (Err first-refusal) ≡ Err x
         → (eqb (refusal_number b s) 0 ≡ false) × (x ≡ first-refusal)
     by-case true n p = grind arith
     by-case false n p = (n, grind arith)
 
   passed : {y : Decision} → d ≡ Ok y → (eqb (refusal_number b s) 0 ≡ true) × (y ≡ accepted_decision b s)
-  unfolding pick first-refusal
-  passed {y} e = by-case (eqb (refusal_number b s) 0) refl (sym (decided-by-number b s) ∙ sym decided ∙ e) where
+  unfolding decision_of pick first-refusal
+  passed {y} e = by-case (eqb (refusal_number b s) 0) refl (sym decided ∙ e) where
     by-case : (t : Bool) → eqb (refusal_number b s) 0 ≡ t → pick t (Ok (accepted_decision b s)) (Err first-refusal) ≡ Ok y
         → (eqb (refusal_number b s) 0 ≡ true) × (y ≡ accepted_decision b s)
     by-case true n p = (n, grind arith)

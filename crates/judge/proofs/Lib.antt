@@ -1,4 +1,3 @@
 pub mod Decisions
 pub mod Joins
-pub mod Outcomes
 pub mod Warnings
