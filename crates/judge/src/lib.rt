@@ -70,12 +70,6 @@ struct Placed {
     changes: bool,
 }
 
-fn record_at(b: &[u8], i: u8) -> Record
-    ensures { result ≡ record_at b.now i }
-{
-    block::record_in(block::slot_at(b, i))
-}
-
 // The record in slot i, if the slot is used. Inlined, so that callers read of it what they ask for and no record is copied.
 #[inline(always)]
 #[tactic(auto, unfolding(crate::specs::Survey::used_record, fields::specs::Lists::pick))]
@@ -101,11 +95,12 @@ fn find_holder(b: &[u8], r: Record) -> Option<u8>
     (0..SLOT_COUNT).find(|i| holds(b, r, *i))
 }
 
-// The record in a slot; where there is none, what is read past the last slot, which is all zeros.
+// The record in a slot; where there is none, what is read past the last slot, which is all zeros: questions 13 and 14 speak of a
+// record in every case.
 fn held_record(b: &[u8], slot: Option<u8>) -> Record
     ensures { result ≡ record_at b.now (unwrap_or slot slot_count) }
 {
-    record_at(b, slot.unwrap_or(SLOT_COUNT))
+    block::record_in(block::slot_at(b, slot.unwrap_or(SLOT_COUNT)))
 }
 
 // Question 13.

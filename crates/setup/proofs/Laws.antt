@@ -21,7 +21,7 @@ use Rattle.rules.specs.Desk.{units, entry_at, set_up, new_register}
 use Rattle.rules.specs.declared.UnitHead.{UnitHead}
 use Rattle.rules.specs.After.{put_row}
 use Rattle.std.specs.Simd.{first_chunks}
-use Rattle.block.proofs.Chunks.{chunk-at}
+use Rattle.fields.proofs.Chunks.{chunk-at}
 use Rattle.block.specs.Codec.{put_unit, put_last_stamp, put_powers, put_unit_head}
 
 zeros-head : (n m : ℕ) → zeros (n + m) ≡ zeros n ++ zeros m
