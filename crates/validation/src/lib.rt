@@ -197,13 +197,10 @@ fn judge_cover(h: Head, report: &[u8]) -> Result<(), Broken>
 fn must_cover(h: Head, report: &[u8]) -> Result<(), Refusal>
     ensures { result ≡ cover_asked h (parts_of report.now) }
 {
-    match judge_cover(h, report) {
-        Ok(()) => Ok(()),
-        Err(broken) => Err(Refusal {
-            number: 8,
-            part: broken.part,
-        }),
-    }
+    judge_cover(h, report).map_err(|broken| Refusal {
+        number: 8,
+        part: broken.part,
+    })
 }
 
 // Questions 4 to 9, in their order.
