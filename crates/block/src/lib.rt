@@ -303,6 +303,7 @@ fn times_hold(last: Minute, r: Record) -> bool
 }
 
 // What question 1 asks of a record, but for its parts.
+#[tactic(auto, using(std::proofs::lemmas::Bool::Decides::nat_tests), unfolding(crate::specs::Slot::holds_alone, fields::specs::Lists::every, fields::specs::Lists::and_each))]
 fn holds_alone(kind: Kind, last: Minute, r: Record) -> bool
     ensures { result ≡ holds_alone kind.0 last r }
 {
@@ -394,6 +395,7 @@ fn slots_apart(slots: &[[u8; SLOT_SIZE]]) -> bool
     ok
 }
 
+#[tactic(auto, unfolding(crate::specs::Slot::head_whole, fields::specs::Lists::every, fields::specs::Lists::and_each))]
 fn head_whole(unit: u16, b: &[u8]) -> bool
     ensures { result ≡ head_whole unit b.now }
 {
@@ -490,6 +492,7 @@ pub fn register_whole(register: &[u8]) -> bool
 }
 
 // A good roster entry.
+#[tactic(auto, unfolding(rules::specs::Roster::entry_good, fields::specs::Lists::every, fields::specs::Lists::and_each))]
 pub fn entry_good(s: &[u8]) -> bool
     ensures { result ≡ entry_good s.now }
 {
