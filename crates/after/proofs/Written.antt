@@ -1,14 +1,13 @@
 -- A slot that is written by puts over zeros. Assumes nothing.
 use Prim.Native.Nat.{ℕ, zero, suc, ◌+◌, ◌*◌, ◌-◌, ◌≤◌}
 use mathlib.Core.Path.{◌≡◌, refl, ap, sym, ◌∙◌}
-use mathlib.Core.Bool.{Bool, true, false}
 use mathlib.Core.List.{List, [], ◌∷◌, ◌++◌, append_assoc, append-nil}
 use native.Mathlib.Omega.{arith}
 use native.Mathlib.Nat.{zero-add}
 use lib.ListN.{length, drop, length-append, length-replicate}
 use lib.Seq.{sets-eq, take_at, drop_at, drop-drop}
 use Rattle.fields.specs.Fields.{u8_at, bytes_of}
-use Rattle.fields.specs.Lists.{pick, series, put}
+use Rattle.fields.specs.Lists.{series, put}
 use Rattle.fields.proofs.Slices.{put-append, series-snoc}
 use Rattle.fields.proofs.Tests.{series-length}
 use Rattle.report.specs.declared.Head.{Head}
@@ -16,13 +15,11 @@ use Rattle.report.specs.declared.Part.{Part}
 use Rattle.report.specs.declared.PartLevel.{PartLevel}
 use Rattle.report.specs.Report.{most_parts, head_of, part_at, parts_of, part_count_of, part_level}
 use Rattle.rules.specs.declared.Record.{Record}
-use Rattle.rules.specs.declared.Row.{Row}
 use Rattle.rules.specs.Block.{pairs_start, pair_size, pair_start, slot_size, zeros}
 use Rattle.rules.specs.Questions.{record_of, kilowatts, record_by}
-use Rattle.rules.specs.After.{pair_bytes, slot_bytes, put_row}
+use Rattle.rules.specs.After.{pair_bytes, slot_bytes}
 use Rattle.rules.proofs.Slots.{pairs-length}
-use Rattle.block.specs.Codec.{codes_bytes, times_bytes, put_record, pair_bytes_of, put_last_stamp}
-use Rattle.after.specs.Plan.{slot_made, head_made}
+use Rattle.block.specs.Codec.{codes_bytes, times_bytes, put_record, pair_bytes_of}
 
 drop-zeros : (m n : ℕ) → drop m (zeros n) ≡ zeros (n - m)
 unfolding zeros
@@ -35,16 +32,6 @@ drop-zeros (suc m) zero =
 drop-zeros (suc m) (suc n) =
     let e : suc n - suc m ≡ n - m = omega arith in
     rw e (drop-zeros m n)
-
-pub series-zeros : (at n : ℕ) → series (λ (j : ℕ). 0) at n ≡ zeros n
-unfolding series zeros
-series-zeros at zero = refl
-series-zeros at (suc n) = ap (λ (l : List ℕ). 0 ∷ l) (series-zeros (at + 1) n)
-
-pub head-written : (z : List ℕ) (changes : Bool) (row : Row) (stamp : ℕ) {x y : List ℕ} → x ≡ pick changes (put_row z row) z
-    → y ≡ put_last_stamp x stamp → y ≡ head_made z changes row stamp
-unfolding head_made put_last_stamp
-head-written z changes row stamp e f = f ∙ ap (λ (l : List ℕ). put_last_stamp l stamp) e
 
 -- one pair more
 abbrev pair_of : Part → List ℕ
@@ -126,18 +113,3 @@ pub slot-written : (s z : List ℕ) {a d e : List ℕ} {h : Head} {r : Record} �
     → e ≡ put d pairs_start (pair_bytes (parts_of s)) → length z ≡ slot_size → part_count_of s ≤ most_parts
     → e ≡ slot_bytes (record_of s) (parts_of s)
 slot-written s z f g r d e l few = e ∙ rw (d, r, g, l, f) (slot-put s few)
-
--- the three ways of a slot
-pub made-written : (s : List ℕ) (cleared : Bool) (z : List ℕ) {t : Bool} {x : List ℕ} → t ≡ true
-    → x ≡ slot_bytes (record_of s) (parts_of s) → x ≡ slot_made s t cleared z
-unfolding slot_made pick
-made-written s cleared z e f = rw e f
-
-pub made_kept : (s z : List ℕ) (cleared : Bool) {t : Bool} → t ≡ false → cleared ≡ false → z ≡ slot_made s t cleared z
-unfolding slot_made pick
-made_kept s z cleared e f = rw (e, f) refl
-
-pub made-zeros : (s z : List ℕ) (cleared : Bool) {t : Bool} {x : List ℕ} → length z ≡ slot_size → t ≡ false → cleared ≡ true
-    → x ≡ zeros (length z) → x ≡ slot_made s t cleared z
-unfolding slot_made pick
-made-zeros s z cleared l e f g = g ∙ rw (e, f, l) refl

@@ -53,6 +53,7 @@ impl Accepted<'_> {
         self.put_pairs(z);
     }
 
+    #[tactic(auto, unfolding(crate::specs::Plan::slot_made, fields::specs::Lists::pick))]
     fn set_slot(&self, z: &mut [u8], written: bool, cleared: bool)
         requires { length z.old ≡ slot_size }
         ensures { z.new ≡ slot_made self.now.report.now written cleared z.old }
@@ -86,6 +87,7 @@ impl Accepted<'_> {
     }
 }
 
+#[tactic(auto, unfolding(fields::specs::Lists::pick))]
 fn change_row(b: &mut [u8], changes: bool, row: Row)
     ensures { b.new ≡ pick changes (put_row b.old row) b.old }
 {
@@ -94,6 +96,7 @@ fn change_row(b: &mut [u8], changes: bool, row: Row)
     }
 }
 
+#[tactic(auto, unfolding(crate::specs::Plan::head_made, block::specs::Codec::put_last_stamp))]
 fn set_head(b: &mut [u8], changes: bool, row: Row, stamp: Minute)
     ensures { b.new ≡ head_made b.old changes row stamp.0 }
 {

@@ -3,8 +3,6 @@ use Prim.Native.Nat.{ℕ, zero, suc, ◌+◌, ◌≤◌, ◌<◌}
 use mathlib.Core.Path.{◌≡◌, refl, ap, sym, ◌∙◌}
 use mathlib.Core.Bool.{Bool, true, false, not, ◌&&◌, ◌||◌, and_assoc, and-true}
 use mathlib.Core.List.{List, [], ◌∷◌, ◌++◌}
-use Rattle.std.proofs.Common.{Option, None, Some}
-use Rattle.std.specs.Option.{MatchOption}
 use Rattle.std.specs.List.{All, list_all, flat_map}
 use Rattle.std.proofs.lemmas.List.Elements.{All-head, All-tail, All-drop}
 use Rattle.std.proofs.lemmas.List.Folds.{list_all-append}
@@ -116,10 +114,3 @@ unfolding each_apart
 apart-all {zs} {ok} {i} t h =
     let past : length zs ≤ i = omega arith in
     sym (t.so_far ∙ rw (drop_of_length-le zs past) (and-true ok))
-
--- the slots after the last one that is used
-pub from_last : (zs : List (List ℕ)) (last : Option ℕ) (end : ℕ)
-    → MatchOption last (All (λ z. used z ≡ false) zs) (λ i. (i < length zs) × All (λ z. used z ≡ false) (drop (i + 1) zs))
-    → MatchOption last (end ≡ 0) (λ i. end ≡ i + 1) → FreeFrom zs end
-from_last zs None end free e = record { most = omega arith; free = rw e free }
-from_last zs (Some i) end free e = record { most = omega arith; free = rw e free.1 }

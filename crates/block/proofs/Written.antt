@@ -1,11 +1,7 @@
 -- The puts of one group of fields as one put. Assumes nothing.
-use Prim.Native.Nat.{ℕ, ◌+◌, ◌<◌}
+use Prim.Native.Nat.{ℕ, ◌+◌}
 use mathlib.Core.Path.{◌≡◌, refl, ap, sym, ◌∙◌}
 use mathlib.Core.List.{List, [], ◌∷◌}
-use native.Mathlib.Omega.{arith}
-use native.Mathlib.Numerals.{add-one}
-use lib.ListN.{length, get_or, take}
-use lib.Seq.{take-suc, length-take-le}
 use Rattle.fields.specs.Fields.{bytes_of}
 use Rattle.fields.specs.Lists.{put}
 use Rattle.fields.proofs.Numbers.{bytes-length}
@@ -44,13 +40,3 @@ unfolding pair_bytes_of
 pair-written z at p e f =
     f ∙ rw e (sym (put-append (bytes_of 4 p.end.0) (bytes_of 4 p.power.0) z at
     ∙ ap (λ (k : ℕ). put (put z at (bytes_of 4 p.end.0)) (at + k) (bytes_of 4 p.power.0)) (bytes-length 4 p.end.0)))
-
--- one byte more of a list
-pub bytes_next : (z : List ℕ) (at j : ℕ) (vs : List ℕ) {y x : List ℕ} {v : ℕ} → j < length vs → y ≡ put z at (take j vs)
-    → v ≡ get_or vs j 0 → x ≡ put y (at + j) (v ∷ []) → x ≡ put z at (take (j + 1) vs)
-bytes_next z at j vs {y} {x} {v} l e f g =
-    g ∙ rw (e, f)
-    (sym (ap (λ (k : ℕ). put z at (take k vs)) (add-one j)
-    ∙ ap (put z at) (take-suc vs j 0 l)
-    ∙ put-append (take j vs) (get_or vs j 0 ∷ []) z at
-    ∙ ap (λ (k : ℕ). put (put z at (take j vs)) (at + k) (get_or vs j 0 ∷ [])) (length-take-le j vs (omega arith))))

@@ -64,6 +64,7 @@ pub struct EndsFound {
 }
 
 // The n bytes from `at` on; what would lie past the end is left out.
+#[tactic(auto, unfolding(fields::specs::Lists::part))]
 pub fn slice_at<'a>(s: &'a [u8], at: usize, n: usize) -> &'a [u8]
     ensures { result.now ≡ part s.now at n }
 {
@@ -132,6 +133,7 @@ pub fn unit_head(b: &[u8]) -> UnitHead
 }
 
 // Slot i, from 0.
+#[tactic(auto, unfolding(rules::specs::Block::slot_at))]
 pub fn slot_at<'a>(b: &'a [u8], i: u8) -> &'a [u8]
     ensures { result.now ≡ slot_at b.now i }
 {
@@ -301,6 +303,7 @@ fn times_hold(last: Minute, r: Record) -> bool
 }
 
 // What question 1 asks of a record, but for its parts.
+#[tactic(auto, using(std::proofs::lemmas::Bool::Decides::nat_tests), unfolding(crate::specs::Slot::holds_alone, fields::specs::Lists::every, fields::specs::Lists::and_each))]
 fn holds_alone(kind: Kind, last: Minute, r: Record) -> bool
     ensures { result ≡ holds_alone kind.0 last r }
 {
@@ -392,6 +395,7 @@ fn slots_apart(slots: &[[u8; SLOT_SIZE]]) -> bool
     ok
 }
 
+#[tactic(auto, unfolding(crate::specs::Slot::head_whole, fields::specs::Lists::every, fields::specs::Lists::and_each))]
 fn head_whole(unit: u16, b: &[u8]) -> bool
     ensures { result ≡ head_whole unit b.now }
 {
@@ -488,6 +492,7 @@ pub fn register_whole(register: &[u8]) -> bool
 }
 
 // A good roster entry.
+#[tactic(auto, unfolding(rules::specs::Roster::entry_good, fields::specs::Lists::every, fields::specs::Lists::and_each))]
 pub fn entry_good(s: &[u8]) -> bool
     ensures { result ≡ entry_good s.now }
 {
@@ -508,12 +513,14 @@ pub fn roster_good(roster: &[u8]) -> bool
 }
 
 // Every byte becomes 0.
+#[tactic(auto, unfolding(rules::specs::Block::zeros))]
 pub fn clear(b: &mut [u8])
     ensures { b.new ≡ zeros (length b.old) }
 {
     b.fill(0);
 }
 
+#[tactic(auto, unfolding(crate::specs::Codec::put_unit))]
 fn put_unit(b: &mut [u8], unit: u16, owner: u16, kind: Kind)
     ensures { b.new ≡ put_unit b.old unit owner kind.0 }
 {
@@ -531,12 +538,14 @@ pub fn put_row(b: &mut [u8], row: Row)
     put_minute(b, 12, row.since);
 }
 
+#[tactic(auto, unfolding(crate::specs::Codec::put_last_stamp))]
 pub fn put_last_stamp(b: &mut [u8], stamp: Minute)
     ensures { b.new ≡ put_last_stamp b.old stamp.0 }
 {
     put_minute(b, 16, stamp);
 }
 
+#[tactic(auto, unfolding(crate::specs::Codec::put_powers))]
 fn put_powers(b: &mut [u8], p: Powers)
     ensures { b.new ≡ put_powers b.old p }
 {
@@ -547,6 +556,7 @@ fn put_powers(b: &mut [u8], p: Powers)
 }
 
 // A unit's head, as unit_head reads it.
+#[tactic(auto, unfolding(crate::specs::Codec::put_unit_head))]
 pub fn put_unit_head(b: &mut [u8], h: UnitHead)
     ensures { b.new ≡ put_unit_head b.old h }
 {
@@ -583,6 +593,7 @@ fn put_times(z: &mut [u8], r: Record, count: u16)
 }
 
 // The fields of a slot, as record_in and stored_count read them.
+#[tactic(auto, unfolding(crate::specs::Codec::put_record))]
 pub fn put_record(z: &mut [u8], r: Record, count: u16)
     ensures { z.new ≡ put_record z.old r count }
 {

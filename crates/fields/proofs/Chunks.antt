@@ -5,7 +5,6 @@ use Rattle.std.proofs.Math.ListN.{drop_of_length-le}
 use Rattle.std.proofs.Math.Seq.{drop-cons, drop-drop}
 use Rattle.std.specs.List.{list_all}
 use Rattle.std.specs.Simd.{first_chunks}
-use mathlib.Core.Bool.{◌&&◌}
 use Rattle.fields.specs.Lists.{all, series, part}
 use Rattle.fields.proofs.Tests.{series-at}
 
@@ -34,11 +33,6 @@ chunks-take n (suc k) (suc m) s h = ap (λ (x : List (List ℕ)). take n s ∷ x
 
 -- a test of every element
 module _ {A : Type 0} (p : A → Bool) where
-  pub all-series : (f : ℕ → A) (i n : ℕ) → all (λ j. p (f j)) (series (λ j. j) i n) ≡ list_all p (series f i n)
-  unfolding all series
-  all-series f i zero = refl
-  all-series f i (suc n) = ap (λ (r : Bool). p (f i) && r) (all-series f (i + 1) n)
-
   all-from : (d : A) (xs : List A) (i n : ℕ) → i + n ≡ length xs → all (λ j. p (get_or xs j d)) (series (λ j. j) i n) ≡ list_all p (drop i xs)
   unfolding all series
   all-from d xs i zero e = (let past : length xs ≤ i = omega arith in rw (drop_of_length-le xs past))

@@ -1,4 +1,0 @@
-use Rattle.block.proofs.entry_of.Goals as goal
-
-pub returns : goal.returns
-returns c = cc
