@@ -70,7 +70,8 @@ struct Placed {
     changes: bool,
 }
 
-// The record in slot i, if the slot is used.
+// The record in slot i, if the slot is used. Inlined, so that a record is read where it lies and not copied into an Option.
+#[inline(always)]
 #[tactic(auto, unfolding(crate::specs::Survey::used_record, fields::specs::Lists::pick))]
 fn used_record(b: &[u8], i: u8) -> Option<Record>
     ensures { result ≡ used_record b.now i }
