@@ -123,7 +123,7 @@ slot-put s few =
 -- a slot cleared, its record put, and its pairs
 pub slot-written : (s z : List ℕ) {a d e : List ℕ} {h : Head} {r : Record} → h ≡ head_of s → a ≡ zeros (length z)
     → r ≡ record_by h → d ≡ put_record a r h.part_count
-    → e ≡ put d pairs_start (pair_bytes (series (part_at s) 0 h.part_count)) → length z ≡ slot_size → part_count_of s ≤ most_parts
+    → e ≡ put d pairs_start (pair_bytes (parts_of s)) → length z ≡ slot_size → part_count_of s ≤ most_parts
     → e ≡ slot_bytes (record_of s) (parts_of s)
 slot-written s z f g r d e l few = e ∙ rw (d, r, g, l, f) (slot-put s few)
 

@@ -6,7 +6,7 @@ ghost use Rattle.rules.specs.Desk.{register_after};
 ghost use Rattle.fields.specs.Lists.{put};
 ghost use Rattle.batch.specs.Batch.{report_here, first_report, reports_here, batch_lines, no_reports, batch_of, after_cut};
 
-use log_lines::Progress;
+use log_lines::{Plain, Progress};
 
 // No line is longer.
 pub const LINE_SIZE: usize = 128;
@@ -70,7 +70,7 @@ pub fn log_batch(
             break;
         };
         let line = &mut text[batch.length..];
-        let logged = log_lines::log_report(register, report, batch.progress, line);
+        let logged = log_lines::log_report::<Plain>(register, report, batch.progress, line);
         batch = Batch {
             progress: logged.progress,
             taken: batch.taken + report.len(),

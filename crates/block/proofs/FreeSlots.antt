@@ -1,24 +1,29 @@
 -- Zeros read as one number of all their bits, and free slots as one stretch of zeros. Assumes nothing.
-use Prim.Native.Nat.{ℕ, zero, suc, ◌+◌, ◌*◌, ◌-◌, ◌≤◌, ◌<◌}
+use Prim.Native.Nat.{ℕ, zero, suc, ◌+◌, ◌≤◌, ◌<◌}
 use mathlib.Core.Path.{◌≡◌, refl, ap, sym, ◌∙◌}
-use mathlib.Core.Bool.{Bool, true, false, ◌&&◌}
-use mathlib.Core.List.{List, ◌++◌}
-use mathlib.Core.Logic.{⊎_elim}
+use mathlib.Core.Bool.{Bool, true, false, not, ◌&&◌, ◌||◌, and_assoc, and-true}
+use mathlib.Core.List.{List, [], ◌∷◌, ◌++◌}
+use Rattle.std.proofs.Common.{Option, None, Some}
+use Rattle.std.specs.Option.{MatchOption}
+use Rattle.std.specs.List.{All, list_all, flat_map}
+use Rattle.std.proofs.lemmas.List.Elements.{All-head, All-tail, All-drop}
+use Rattle.std.proofs.lemmas.List.Folds.{list_all-append}
 use native.Mathlib.Omega.{arith}
 use lib.Bits.{bit_or, or_zero_l, or_add_and, and_le_r}
 use lib.Dec.{eqb}
-use lib.ListN.{length}
+use native.Mathlib.Numerals.{add-one}
+use lib.ListN.{length, take, drop, get_or, take-append-drop, drop_of_length-le}
+use lib.Seq.{drop-cons}
+use Rattle.std.proofs.lemmas.List.{take_more}
 use borrow.Author.Tests.{eqb-true, eqb-false, ne_eqb}
-use Rattle.fields.specs.Fields.{u8_at}
-use Rattle.fields.specs.Lists.{pick, all, series}
-use Rattle.fields.proofs.Bools.{lt-or-le}
-use Rattle.fields.proofs.Tests.{Tested, all_append, all-intro}
+use Rattle.fields.specs.Lists.{series}
+use Rattle.fields.proofs.Tests.{all_append}
 use Rattle.quantities.specs.declared.Minute.{Minute}
-use Rattle.rules.specs.Block.{head_size, slot_size, slot_count, block_size, zeros_at, slot_at, used}
-use Rattle.rules.specs.Whole.{slot_whole, slots_apart}
-use Rattle.block.specs.Slot.{FreeFrom}
-use Rattle.block.proofs.Cut.{zeros-part}
-use Rattle.block.proofs.Turns.{slot-long}
+use Rattle.rules.specs.Block.{slot_size, zeros_at, used, record_in}
+use Rattle.rules.specs.Whole.{records_apart, slot_whole, slots_apart}
+use Rattle.block.specs.Slot.{FreeFrom, each_apart}
+use Rattle.fields.proofs.Chunks.{all-elements}
+use Rattle.block.proofs.Pairs.{free-slot}
 
 -- two numbers have no bit together exactly if neither has one
 pub no_bits : (a x : ℕ) → eqb (bit_or a x) 0 ≡ (eqb a 0 && eqb x 0)
@@ -27,11 +32,6 @@ no_bits a x = by-case (eqb a 0) (eqb x 0) refl refl where
   by-case true q e f = rw (eqb-true a 0 e, or_zero_l x) f
   by-case false q e f =
       ne_eqb (bit_or a x) 0 (λ n. eqb-false a 0 e (omega (arith, n, or_add_and a x, and_le_r a x)))
-
--- what a loop over the bytes keeps
-pub bits-more : (z : List ℕ) (bits i v : ℕ) → Tested (λ j. eqb (u8_at z j) 0) (λ j. j) (length z) (eqb bits 0 && eqb v 0) (i + 1)
-    → Tested (λ j. eqb (u8_at z j) 0) (λ j. j) (length z) (eqb (bit_or bits v) 0) (i + 1)
-bits-more z bits i v k = rw (no_bits bits v) k
 
 -- zeros, one stretch after the other
 series-cut : (at n m : ℕ) → series (λ (j : ℕ). j) at (n + m) ≡ series (λ j. j) at n ++ series (λ j. j) (at + n) m
@@ -49,80 +49,77 @@ pub zeros-cut : (s : List ℕ) (at n m : ℕ) → zeros_at s at (n + m) ≡ (zer
 unfolding zeros_at
 zeros-cut s at n m = rw (series-cut at n m) (all_append _ (series (λ j. j) at n) (series (λ j. j) (at + n) m))
 
-module _ (b : List ℕ) (long : length b ≡ block_size) (kind : ℕ) (last : Minute) where
-  slot-free : (i : ℕ) → i < slot_count → used (slot_at b i) ≡ false
-      → slot_whole kind last (slot_at b i) ≡ zeros_at b (head_size + slot_size * i) slot_size
-  unfolding slot_whole slot_at pick
-  slot-free i h e =
-      rw e (ap (zeros_at (slot_at b i) 0) (sym (slot-long b i long h refl))
-      ∙ zeros-part b (head_size + slot_size * i) slot_size refl)
+-- zeros, as a test of each byte
+zeros-each : (z : List ℕ) → zeros_at z 0 (length z) ≡ list_all (λ v. eqb v 0) z
+unfolding zeros_at
+zeros-each z = all-elements (λ v. eqb v 0) 0 z
 
-  -- the slots from i on, n of them, all free
-  pub slots-free : (i n : ℕ) → i + n ≤ slot_count → ((j : ℕ) → i ≤ j → j < slot_count → used (slot_at b j) ≡ false)
-      → zeros_at b (head_size + slot_size * i) (slot_size * n) ≡ all (λ i. slot_whole kind last (slot_at b i)) (series (λ i. i) i n)
-  unfolding all series zeros_at
-  slots-free i zero h f = refl
-  slots-free i (suc n) h f =
-      let k : slot_size * suc n ≡ slot_size + slot_size * n = omega arith in
-      let on : head_size + slot_size * i + slot_size ≡ head_size + slot_size * (i + 1) = omega arith in
-      ap (zeros_at b (head_size + slot_size * i)) k
-      ∙ zeros-cut b (head_size + slot_size * i) slot_size (slot_size * n)
-      ∙ rw (on, slot-free i (omega arith) (f i (omega arith) (omega arith)))
-      (ap (λ (v : Bool). zeros_at b (head_size + slot_size * i) slot_size && v)
-      (slots-free (i + 1) n (omega arith) (λ j l m. f j (omega arith) m)))
+-- free slots one after the other
+module _ (kind : ℕ) (last : Minute) where
+  free-bytes : (zs : List (List ℕ)) → All (λ z. used z ≡ false) zs → All (λ z. length z ≡ slot_size) zs
+      → list_all (λ v. eqb v 0) (flat_map (λ x. x) zs) ≡ list_all (slot_whole kind last) zs
+  free-bytes [] free long = refl
+  free-bytes (z ∷ zs) free long =
+      let here : list_all (λ v. eqb v 0) z ≡ slot_whole kind last z =
+      sym (free-slot kind last z refl (All-head (λ x. used x ≡ false) z zs free) (All-head (λ x. length x ≡ slot_size) z zs long) ∙ zeros-each z) in
+      list_all-append (λ v. eqb v 0) z (flat_map (λ x. x) zs)
+      ∙ rw (here, free-bytes zs (All-tail (λ x. used x ≡ false) z zs free) (All-tail (λ x. length x ≡ slot_size) z zs long))
 
-  -- the loop over the others is through
-  pub slots-through : {i end : ℕ} {r : Bool} → FreeFrom b end
-      → Tested (λ j. slot_whole kind last (slot_at b j)) (λ j. j) slot_count true i → end ≤ i
-      → r ≡ zeros_at b (head_size + slot_size * i) (block_size - (head_size + slot_size * i))
-      → r ≡ all (λ i. slot_whole kind last (slot_at b i)) (series (λ i. i) 0 slot_count)
-  slots-through {i} {end} w t e a =
-      let most = t.most in
-      let size : block_size - (head_size + slot_size * i) ≡ slot_size * (slot_count - i) = omega arith in
-      a ∙ ap (zeros_at b (head_size + slot_size * i)) size
-      ∙ slots-free i (slot_count - i) (omega arith) (λ j l m. w.free j (omega arith) m)
-      ∙ sym t.so_far
+  -- the first slots, and the bytes of the others
+  pub slots-free : (zs : List (List ℕ)) (end : ℕ) → FreeFrom zs end → All (λ z. length z ≡ slot_size) zs
+      → (list_all (slot_whole kind last) (take end zs) && zeros_at (flat_map (λ x. x) (drop end zs)) 0 (length (flat_map (λ x. x) (drop end zs))))
+      ≡ list_all (slot_whole kind last) zs
+  slots-free zs end w long =
+      ap (λ (r : Bool). list_all (slot_whole kind last) (take end zs) && r)
+      (zeros-each _ ∙ free-bytes (drop end zs) w.free (All-drop (λ z. length z ≡ slot_size) end zs long))
+      ∙ sym (list_all-append (slot_whole kind last) (take end zs) (drop end zs))
+      ∙ ap (list_all (slot_whole kind last)) (take-append-drop end zs)
 
--- a free slot is apart from those below it
-apart-free : (b : List ℕ) (i : ℕ) → used (slot_at b i) ≡ false
-    → all (λ j. slots_apart (slot_at b i) (slot_at b j)) (series (λ j. j) 0 i) ≡ true
+-- a free slot is apart from every other one
+pub apart_free : (y : List ℕ) (zs : List (List ℕ)) → used y ≡ false → list_all (slots_apart y) zs ≡ true
 unfolding slots_apart
-apart-free b i e = all-intro (λ j. slots_apart (slot_at b i) (slot_at b j)) (λ j. j) 0 i (λ j l h. rw e)
+apart_free y [] e = refl
+apart_free y (z ∷ zs) e = rw e (apart_free y zs e)
 
--- where only the first slot is used, all are apart
-pub apart-few : (b : List ℕ) {end : ℕ} → FreeFrom b end → end ≤ 1
-    → true ≡ all (λ i. all (λ j. slots_apart (slot_at b i) (slot_at b j)) (series (λ j. j) 0 i)) (series (λ i. i) 0 slot_count)
-unfolding all series
-apart-few b w few =
-    sym (all-intro (λ i. all (λ j. slots_apart (slot_at b i) (slot_at b j)) (series (λ j. j) 0 i)) (λ i. i) 0 slot_count each) where
-      each : (i : ℕ) → 0 ≤ i → i < 0 + slot_count → all (λ j. slots_apart (slot_at b i) (slot_at b j)) (series (λ j. j) 0 i) ≡ true
-      each zero l h = refl
-      each (suc i) l h = apart-free b (suc i) (w.free (suc i) (omega arith) (omega arith))
+pub apart_used : (y : List ℕ) (zs : List (List ℕ)) → used y ≡ true
+    → list_all (λ z. not (used z) || records_apart (record_in y) (record_in z)) zs ≡ list_all (slots_apart y) zs
+unfolding slots_apart
+apart_used y [] e = refl
+apart_used y (z ∷ zs) e = rw (apart_used y zs e, e)
 
--- the search for the last used slot
-pub record Searched (b : List ℕ) (end i : ℕ) : Type 0 where
-  pub below : end ≤ i
-  pub most : i ≤ slot_count
-  pub free : (j : ℕ) → end ≤ j → j < i → used (slot_at b j) ≡ false
+-- free slots at the end
+apart-none : (below zs : List (List ℕ)) → All (λ z. used z ≡ false) zs → each_apart below zs ≡ true
+unfolding each_apart
+apart-none below [] free = refl
+apart-none below (z ∷ zs) free =
+    rw (apart_free z below (All-head (λ x. used x ≡ false) z zs free)) (apart-none (below ++ (z ∷ [])) zs (All-tail (λ x. used x ≡ false) z zs free))
 
-pub searched-none : (b : List ℕ) → Searched b 0 0
-searched-none b = record { below = omega arith; most = omega arith; free = λ j l h. absurd (omega arith) }
+apart-rest : (below zs free : List (List ℕ)) → All (λ z. used z ≡ false) free → each_apart below (zs ++ free) ≡ each_apart below zs
+unfolding each_apart
+apart-rest below [] free h = apart-none below free h
+apart-rest below (z ∷ zs) free h = rw (apart-rest (below ++ (z ∷ [])) zs free h)
 
-module _ {b : List ℕ} {end i : ℕ} (k : Searched b end i) where
-  pub searched-used : i < slot_count → Searched b (i + 1) (i + 1)
-  searched-used h = record { below = omega arith; most = omega arith; free = λ j l m. absurd (omega arith) }
+pub apart-taken : (zs : List (List ℕ)) (end : ℕ) → FreeFrom zs end → each_apart [] zs ≡ each_apart [] (take end zs)
+apart-taken zs end w = ap (each_apart []) (sym (take-append-drop end zs)) ∙ apart-rest [] (take end zs) (drop end zs) w.free
 
-  pub searched-free : {z : List ℕ} {u : Bool} → i < slot_count → z ≡ slot_at b i → u ≡ used z → u ≡ false → Searched b end (i + 1)
-  searched-free {z} {u} h e a f = record {
-    below = (let low = k.below in omega arith);
-    most = omega arith;
-    free = λ j l m. ⊎_elim (k.free j l) (λ n. let same : j ≡ i = omega arith in rw same here) (lt-or-le j i);
-  } where
-    here : used (slot_at b i) ≡ false
-    here = sym (a ∙ ap used e) ∙ f
+-- what a loop over the slots keeps
+pub record Apart (zs : List (List ℕ)) (ok : Bool) (i : ℕ) : Type 0 where
+  pub so_far : each_apart [] zs ≡ (ok && each_apart (take i zs) (drop i zs))
 
-  pub searched-all : slot_count ≤ i → FreeFrom b end
-  searched-all h =
-      let low = k.below in
-      let high = k.most in
-      record { most = omega arith; free = λ j l m. k.free j l (omega arith) }
+pub apart-more : {zs : List (List ℕ)} {ok r : Bool} {i : ℕ} → Apart zs ok i → i < length zs
+    → r ≡ list_all (slots_apart (get_or zs i [])) (take i zs) → Apart zs (ok && r) (i + 1)
+unfolding each_apart
+apart-more {zs} {ok} {i = i} t h q = record { so_far = t.so_far ∙ rw (drop-cons zs i [] h, ← q, ← take_more zs i [] h, add-one i) (sym (and_assoc ok _ _)) }
+
+pub apart-all : {zs : List (List ℕ)} {ok : Bool} {i : ℕ} → Apart zs ok i → i ≡ length zs → ok ≡ each_apart [] zs
+unfolding each_apart
+apart-all {zs} {ok} {i} t h =
+    let past : length zs ≤ i = omega arith in
+    sym (t.so_far ∙ rw (drop_of_length-le zs past) (and-true ok))
+
+-- the slots after the last one that is used
+pub from_last : (zs : List (List ℕ)) (last : Option ℕ) (end : ℕ)
+    → MatchOption last (All (λ z. used z ≡ false) zs) (λ i. (i < length zs) × All (λ z. used z ≡ false) (drop (i + 1) zs))
+    → MatchOption last (end ≡ 0) (λ i. end ≡ i + 1) → FreeFrom zs end
+from_last zs None end free e = record { most = omega arith; free = rw e free }
+from_last zs (Some i) end free e = record { most = omega arith; free = rw e free.1 }

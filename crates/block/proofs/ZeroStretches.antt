@@ -1,8 +1,7 @@
 -- Zeros: all bytes as one number of their bits, and one stretch after the other. Assumes nothing.
 use Rattle.std.proofs.Common.{◌≡◌, ℕ, zero, suc, ◌+◌, ◌*◌, ◌-◌, ◌/◌, ◌≤◌, ◌<◌, Bool, List, [], ap, sym, ◌∙◌, length, take, drop, get_or, length-drop, arith, add-one, zero-add}
-use native.Mathlib.Nat.{mul-zero, mul-suc}
 use Rattle.std.proofs.Math.ListN.{drop_of_length-le}
-use Rattle.std.proofs.Math.Seq.{drop-cons, drop-drop, take_all}
+use Rattle.std.proofs.Math.Seq.{drop-cons, take_all}
 use Rattle.std.specs.List.{fold}
 use Rattle.std.specs.Simd.{first_chunks}
 use mathlib.Core.Bool.{◌&&◌, and_assoc, and-true}
@@ -12,6 +11,7 @@ use Rattle.fields.specs.Lists.{all, series, part}
 use Rattle.rules.specs.Block.{zeros_at}
 use Rattle.block.specs.Slot.{stretch_size}
 use Rattle.block.proofs.Cut.{zeros-part}
+use Rattle.fields.proofs.Chunks.{chunk-at}
 use Rattle.block.proofs.FreeSlots.{no_bits, zeros-cut}
 
 bits-from : (s : List ℕ) (n at a : ℕ) → at + n ≡ length s → eqb (fold (λ bits b. bit_or bits b) a (drop at s)) 0 ≡ (eqb a 0 && zeros_at s at n)
@@ -23,14 +23,6 @@ bits-from s (suc n) at a e =
 
 pub bits-zero : (s : List ℕ) {bits : ℕ} → bits ≡ fold (λ bits b. bit_or bits b) 0 s → eqb bits 0 ≡ zeros_at s 0 (length s)
 bits-zero s e = ap (λ (n : ℕ). eqb n 0) e ∙ bits-from s (length s) 0 0 (zero-add _)
-
--- chunk i of n elements
-pub chunk-at : (n k i : ℕ) (s : List ℕ) → i < k → get_or (first_chunks n k s) i [] ≡ part s (n * i) n
-unfolding part
-chunk-at n zero i s h = absurd (omega arith)
-chunk-at n (suc k) zero s h = rw mul-zero
-chunk-at n (suc k) (suc i) s h =
-    chunk-at n k i (drop n s) (omega arith) ∙ ap (take n) (rw (drop-drop (n * i) n s, mul-suc n i) (ap (λ (j : ℕ). drop j s) (omega arith)))
 
 -- one stretch more, and the rest after all
 module _ (s : List ℕ) {chunks : List (List ℕ)} (front : chunks ≡ first_chunks stretch_size (length s / stretch_size) s) where

@@ -1,13 +1,14 @@
 // A unit's block and the roster: decoded, and question 1.
 #![tactic(auto)]
 
-ghost use Rattle.std.specs.Prelude.{◌≡◌, Bool, not, ◌&&◌, ◌||◌, eqb, ltb, leb, List, ℕ, ◌+◌, ◌*◌, ◌≤◌, ◌<◌, length, drop};
+ghost use Rattle.std.specs.Prelude.{◌≡◌, Bool, false, not, ◌&&◌, ◌||◌, eqb, ltb, leb, List, ℕ, ◌+◌, ◌*◌, ◌≤◌, ◌<◌, length, drop, get_or, []};
 ghost use Rattle.std.proofs.Common.{lit≤};
 ghost use Rattle.fields.specs.Fields.{u32_at};
 ghost use Rattle.fields.specs.Lists.{all, series, part, put};
 ghost use Rattle.quantities.specs.Quantities.{minute_at, kilowatt_at};
 ghost use Rattle.rules.specs.declared.Record.{Record};
 ghost use Rattle.rules.specs.declared.UnitHead.{UnitHead};
+ghost use Rattle.report.specs.Report.{most_parts};
 ghost use Rattle.rules.specs.Roster.{most_units, entry_size, powers_at, entry_of, entry_good, piece, pieces_pass, roster_good};
 ghost use Rattle.rules.specs.Block.{pairs_start, pair_start, slot_size, slot_count, block_size, zeros, zeros_at, unit_head, HeadFits, slot_at, used, record_in, stored_count};
 ghost use Rattle.rules.specs.Codes.{between, stop, off_grid};
@@ -17,7 +18,9 @@ ghost use Rattle.rules.specs.After.{put_row};
 ghost use Rattle.block.specs.Codec.{put_unit, put_last_stamp, put_powers, put_unit_head, codes_bytes, times_bytes, put_record, pair_bytes_of};
 ghost use Rattle.block.specs.Codec.{head_fields_end, slot_fields_end, RecordFits, HoldsRecord, PairFits};
 ghost use Rattle.block.specs.declared.Pair.{Pair};
-ghost use Rattle.block.specs.Slot.{stretch_size, pair_at, ends_rise, PowersWithin, pairs_rise, holds_alone, head_whole, FreeFrom};
+ghost use Rattle.block.specs.Slot.{stretch_size, pair_at, pairs_of, ends_rise, pairs_rise, holds_alone, slots_of, each_apart, head_whole, FreeFrom};
+ghost use Rattle.std.specs.List.{list_all, All};
+ghost use Rattle.std.specs.Option.{MatchOption};
 
 use fields::{bytes_at, chunk_at, put_bytes, put_u8, put_u16, u8_at, u16_at};
 use quantities::{Kilowatt, Minute, Period, kilowatt_at, minute_at, put_kilowatt, put_minute};
@@ -166,14 +169,6 @@ pub fn stored_count(z: &[u8]) -> u16
     u16_at(z, 36)
 }
 
-// u32_at where the bytes are there: a load and no test.
-fn u32_in(s: &[u8], at: usize) -> u32
-    requires { at + 4 ≤ length s.now }
-    ensures { result ≡ u32_at s.now at }
-{
-    u32::from_le_bytes([s[at], s[at + 1], s[at + 2], s[at + 3]])
-}
-
 // A pair by its bytes.
 fn pair_in(pair: &[u8]) -> Pair
     ensures { result ≡ record { end = minute_at pair.now 0; power = kilowatt_at pair.now 4 } }
@@ -229,21 +224,30 @@ pub fn zeros_at(s: &[u8], at: usize, n: usize) -> bool
     all_zero(slice_at(s, at, n))
 }
 
+// The first k pairs of a slot, each by its bytes.
+fn pairs_of(z: &[u8; SLOT_SIZE], k: u16) -> &[[u8; PAIR_SIZE]]
+    requires { k ≤ most_parts }
+    ensures { result.now ≡ pairs_of z.now k }
+{
+    let (_, rest) = z.split_at(PAIRS_START);
+    let (pairs, _) = rest.as_chunks::<PAIR_SIZE>();
+    &pairs[..k as usize]
+}
+
 // Whether the part ends rise from the period's start to its end, and a number that no power is above. Compared as signed
 // numbers, which takes fewer instructions; a time is below 2 to the 31.
-fn ends_rise(z: &[u8], k: u16, period: Period) -> EndsFound
-    requires k_in_bounds { pair_start k ≤ length z.now }
-    requires times_bound { (period.start.0 < 2147483648) × (period.end.0 < 2147483648) }
-    ensures rise_value { result.rise ≡ ends_rise z.now pairs_start k period.start.0 period.end.0 }
-    ensures powers_within { PowersWithin z.now k result.bound }
+fn ends_rise(pairs: &[[u8; PAIR_SIZE]], period: Period) -> EndsFound
+    requires { (period.start.0 < 2147483648) × (period.end.0 < 2147483648) }
+    ensures rise_value { result.rise ≡ ends_rise pairs.now period.start.0 period.end.0 }
+    ensures powers_within { All (λ pair. u32_at pair 4 ≤ result.bound) pairs.now }
 {
     let mut rise = true;
     let mut bound = 0u32;
     let mut start = period.start.0.cast_signed();
-    for i in 0..k {
-        let at = PAIRS_START + PAIR_SIZE * (i as usize);
-        let end = u32_in(z, at).cast_signed();
-        bound = bound | u32_in(z, at + 4);
+    for bytes in pairs {
+        let pair = pair_in(bytes);
+        let end = pair.end.0.cast_signed();
+        bound = bound | pair.power.0;
         rise = rise & (start < end);
         start = end;
     }
@@ -254,16 +258,13 @@ fn ends_rise(z: &[u8], k: u16, period: Period) -> EndsFound
 }
 
 // The part ends rise from the period's start to its end, and every power is in range.
-fn pairs_rise(z: &[u8], k: u16, period: Period) -> bool
-    requires { pair_start k ≤ length z.now }
-    ensures { result ≡ pairs_rise z.now pairs_start k period.start.0 period.end.0 }
+fn pairs_rise(pairs: &[[u8; PAIR_SIZE]], period: Period) -> bool
+    ensures { result ≡ pairs_rise pairs.now period.start.0 period.end.0 }
 {
     let mut ok = true;
     let mut start = period.start;
-    for i in 0..k {
-        let at = PAIRS_START + PAIR_SIZE * (i as usize);
-        let end = Minute(u32_in(z, at));
-        let power = Kilowatt(u32_in(z, at + 4));
+    for bytes in pairs {
+        let Pair { end, power } = pair_in(bytes);
         ok = ok & ((start < end) & quantities::is_power(power));
         start = end;
     }
@@ -271,16 +272,15 @@ fn pairs_rise(z: &[u8], k: u16, period: Period) -> bool
 }
 
 // The same by one pass where the powers' bound is a power, as a rule.
-fn pairs_fit(z: &[u8], k: u16, period: Period) -> bool
-    requires k_in_bounds { pair_start k ≤ length z.now }
-    requires times_bound { (period.start.0 < 2147483648) × (period.end.0 < 2147483648) }
-    ensures { result ≡ pairs_rise z.now pairs_start k period.start.0 period.end.0 }
+fn pairs_fit(pairs: &[[u8; PAIR_SIZE]], period: Period) -> bool
+    requires { (period.start.0 < 2147483648) × (period.end.0 < 2147483648) }
+    ensures { result ≡ pairs_rise pairs.now period.start.0 period.end.0 }
 {
-    let found = ends_rise(z, k, period);
+    let found = ends_rise(pairs, period);
     if quantities::is_power(Kilowatt(found.bound)) {
         return found.rise;
     }
-    pairs_rise(z, k, period)
+    pairs_rise(pairs, period)
 }
 
 // An event is not kept, and off-grid work only once begun.
@@ -307,8 +307,7 @@ fn holds_alone(kind: Kind, last: Minute, r: Record) -> bool
     type_holds(r) & fields_in_range(r) & kind_allows(kind, r) & times_hold(last, r)
 }
 
-fn slot_whole(kind: Kind, last: Minute, z: &[u8]) -> bool
-    requires { length z.now ≡ slot_size }
+fn slot_whole(kind: Kind, last: Minute, z: &[u8; SLOT_SIZE]) -> bool
     ensures { result ≡ slot_whole kind.0 last z.now }
 {
     if is_used(z) {
@@ -323,7 +322,7 @@ fn slot_whole(kind: Kind, last: Minute, z: &[u8]) -> bool
         let from = PAIRS_START + PAIR_SIZE * (k as usize);
         return choose(
             is_levelled(r.record_type),
-            (1 <= k) & pairs_fit(z, k, r.period),
+            (1 <= k) & pairs_fit(pairs_of(z, k), r.period),
             k == 0,
         ) & zeros_at(z, 38, 50)
             & zeros_at(z, from, SLOT_SIZE - from);
@@ -331,76 +330,64 @@ fn slot_whole(kind: Kind, last: Minute, z: &[u8]) -> bool
     all_zero(z)
 }
 
-// The first slot from which on all are free, or 8.
-fn free_from(b: &[u8]) -> u8
-    ensures { FreeFrom b.now result }
+// The slots of a block.
+fn slots_of(b: &[u8; BLOCK_SIZE]) -> &[[u8; SLOT_SIZE]]
+    ensures { result.now ≡ slots_of b.now }
 {
-    let mut end = 0u8;
-    for i in 0..SLOT_COUNT {
-        if is_used(slot_at(b, i)) {
-            end = i + 1;
-        }
-    }
-    end
+    let (_, rest) = b.split_at(HEAD_SIZE);
+    let (slots, _) = rest.as_chunks::<SLOT_SIZE>();
+    slots
 }
 
-// The free slots at the end are zeros in one stretch.
-fn slots_whole(kind: Kind, last: Minute, b: &[u8], end: u8) -> bool
-    requires b_len { length b.now ≡ block_size }
-    requires free_from { FreeFrom b.now end }
-    ensures { result ≡ all (λ i. slot_whole kind.0 last (slot_at b.now i)) (series (λ i. i) 0 slot_count) }
+fn last_used(slots: &[[u8; SLOT_SIZE]]) -> Option<usize>
+    ensures { MatchOption result (All (λ z. used z ≡ false) slots.now) (λ i. (i < length slots.now) × All (λ z. used z ≡ false) (drop (i + 1) slots.now)) }
 {
-    for i in 0..SLOT_COUNT {
-        if end <= i {
-            let from = HEAD_SIZE + SLOT_SIZE * (i as usize);
-            return zeros_at(b, from, BLOCK_SIZE - from);
-        }
-        if !slot_whole(kind, last, slot_at(b, i)) {
-            return false;
-        }
-    }
-    true
+    slots.iter().rposition(|z| is_used(z))
+}
+
+// The first slot from which on all are free.
+fn free_from(slots: &[[u8; SLOT_SIZE]]) -> usize
+    ensures { FreeFrom slots.now result }
+{
+    last_used(slots).map_or(0, |i| i + 1)
+}
+
+// Each slot; those that are free at the end are zeros in one stretch.
+fn slots_whole(kind: Kind, last: Minute, slots: &[[u8; SLOT_SIZE]], end: usize) -> bool
+    requires { FreeFrom slots.now end }
+    ensures { result ≡ list_all (slot_whole kind.0 last) slots.now }
+{
+    let (taken, free) = slots.split_at(end);
+    taken.iter().all(|z| slot_whole(kind, last, z)) && all_zero(free.as_flattened())
 }
 
 // A record and what is in a slot.
 fn slot_apart(r: Record, z: &[u8]) -> bool
     ensures { result ≡ (not (used z.now) || records_apart r (record_in z.now)) }
 {
-    if is_used(z) {
-        records::records_apart(r, record_in(z))
-    } else {
-        true
-    }
+    !is_used(z) || records::records_apart(r, record_in(z))
 }
 
-// A record and what is in the slots below i.
-fn apart_below(r: Record, b: &[u8], i: u8) -> bool
-    ensures { result ≡ all (λ j. not (used (slot_at b.now j)) || records_apart r (record_in (slot_at b.now j))) (series (λ j. j) 0 i) }
+// A record and what is in slots.
+fn apart_from(r: Record, slots: &[[u8; SLOT_SIZE]]) -> bool
+    ensures { result ≡ list_all (λ z. not (used z) || records_apart r (record_in z)) slots.now }
+{
+    slots.iter().all(|z| slot_apart(r, z))
+}
+
+// A slot and those below it.
+fn slot_apart_below(y: &[u8], below: &[[u8; SLOT_SIZE]]) -> bool
+    ensures { result ≡ list_all (slots_apart y.now) below.now }
+{
+    !is_used(y) || apart_from(record_in(y), below)
+}
+
+fn slots_apart(slots: &[[u8; SLOT_SIZE]]) -> bool
+    ensures { result ≡ each_apart [] slots.now }
 {
     let mut ok = true;
-    for j in 0..i {
-        ok = ok & slot_apart(r, slot_at(b, j));
-    }
-    ok
-}
-
-fn slot_apart_below(b: &[u8], i: u8) -> bool
-    ensures { result ≡ all (λ j. slots_apart (slot_at b.now i) (slot_at b.now j)) (series (λ j. j) 0 i) }
-{
-    let y = slot_at(b, i);
-    if is_used(y) {
-        apart_below(record_in(y), b, i)
-    } else {
-        true
-    }
-}
-
-fn slots_apart(b: &[u8]) -> bool
-    ensures { result ≡ all (λ i. all (λ j. slots_apart (slot_at b.now i) (slot_at b.now j)) (series (λ j. j) 0 i)) (series (λ i. i) 0 slot_count) }
-{
-    let mut ok = true;
-    for i in 0..SLOT_COUNT {
-        ok = ok & slot_apart_below(b, i);
+    for (i, y) in slots.iter().enumerate() {
+        ok = ok & slot_apart_below(y, &slots[..i]);
     }
     ok
 }
@@ -420,50 +407,37 @@ fn head_whole(unit: u16, b: &[u8]) -> bool
 pub fn block_whole(unit: u16, b: &[u8]) -> bool
     ensures { result ≡ block_whole unit b.now }
 {
-    if b.len() != BLOCK_SIZE {
+    let Some(b) = b.as_array::<BLOCK_SIZE>() else {
         return false;
-    }
+    };
     if !head_whole(unit, b) {
         return false;
     }
     let h = unit_head(b);
-    let end = free_from(b);
-    if !slots_whole(h.kind, h.last_stamp, b, end) {
-        return false;
-    }
-    if end <= 1 {
-        return true;
-    }
-    slots_apart(b)
+    let slots = slots_of(b);
+    let end = free_from(slots);
+    slots_whole(h.kind, h.last_stamp, slots, end) && slots_apart(&slots[..end])
 }
 
 // What stands in pieces of one size, and when one is good.
-trait Pieces {
-    ghost SIZE: { ℕ };
-
+trait Pieces<const SIZE: usize> {
     ghost good: { ℕ → List ℕ → Bool };
 
     ghost size_in_range: { (1 ≤ SIZE) × (SIZE ≤ block_size) };
 
-    const SIZE: usize;
-
-    fn is_good(number: u16, piece: &[u8]) -> bool
+    fn is_good(number: u16, piece: &[u8; SIZE]) -> bool
         ensures { result ≡ good number piece.now };
 }
 
 // The blocks of a register.
 struct Blocks;
 
-impl Pieces for Blocks {
-    ghost SIZE = { block_size };
-
+impl Pieces<BLOCK_SIZE> for Blocks {
     ghost good = { block_whole };
 
     ghost size_in_range = { (lit≤ tt, lit≤ tt) };
 
-    const SIZE: usize = BLOCK_SIZE;
-
-    fn is_good(number: u16, piece: &[u8]) -> bool {
+    fn is_good(number: u16, piece: &[u8; BLOCK_SIZE]) -> bool {
         block_whole(number, piece)
     }
 }
@@ -471,28 +445,22 @@ impl Pieces for Blocks {
 // The entries of a roster.
 struct Entries;
 
-impl Pieces for Entries {
-    ghost SIZE = { entry_size };
-
+impl Pieces<ENTRY_SIZE> for Entries {
     ghost good = { λ number entry. entry_good entry };
 
     ghost size_in_range = { (lit≤ tt, lit≤ tt) };
 
-    const SIZE: usize = ENTRY_SIZE;
-
-    fn is_good(_number: u16, piece: &[u8]) -> bool {
+    fn is_good(_number: u16, piece: &[u8; ENTRY_SIZE]) -> bool {
         entry_good(piece)
     }
 }
 
-fn each_good<P: Pieces>(s: &[u8], n: u16) -> bool
-    requires { n ≤ most_units }
-    ensures { result ≡ all (λ u. P.good u (piece P.SIZE s.now u)) (series (λ u. u) 1 n) }
+fn each_good<const SIZE: usize, P: Pieces<SIZE>>(pieces: &[[u8; SIZE]]) -> bool
+    requires { length pieces.now ≤ most_units }
+    ensures { result ≡ all (λ i. P.good (i + 1) (get_or pieces.now i [])) (series (λ i. i) 0 (length pieces.now)) }
 {
-    let size = P::SIZE;
-    for i in 0..n {
-        let piece = slice_at(s, size * (i as usize), size);
-        if !P::is_good(i + 1, piece) {
+    for (i, piece) in pieces.iter().enumerate() {
+        if !P::is_good(i as u16 + 1, piece) {
             return false;
         }
     }
@@ -500,13 +468,13 @@ fn each_good<P: Pieces>(s: &[u8], n: u16) -> bool
 }
 
 // 1 to 64 pieces, each good.
-fn pieces_good<P: Pieces>(s: &[u8]) -> bool
-    ensures { result ≡ pieces_pass P.SIZE P.good s.now }
+fn pieces_good<const SIZE: usize, P: Pieces<SIZE>>(s: &[u8]) -> bool
+    ensures { result ≡ pieces_pass SIZE P.good s.now }
 {
-    let size = P::SIZE;
-    let n = s.len() / size;
-    if (s.len() % size == 0) & ((1 <= n) & (n <= MOST_UNITS)) {
-        each_good::<P>(s, n as u16)
+    let (pieces, rest) = s.as_chunks::<SIZE>();
+    let n = pieces.len();
+    if rest.is_empty() & ((1 <= n) & (n <= MOST_UNITS)) {
+        each_good::<SIZE, P>(pieces)
     } else {
         false
     }
@@ -516,7 +484,7 @@ fn pieces_good<P: Pieces>(s: &[u8]) -> bool
 pub fn register_whole(register: &[u8]) -> bool
     ensures { result ≡ register_whole register.now }
 {
-    pieces_good::<Blocks>(register)
+    pieces_good::<BLOCK_SIZE, Blocks>(register)
 }
 
 // A good roster entry.
@@ -536,7 +504,7 @@ pub fn entry_good(s: &[u8]) -> bool
 pub fn roster_good(roster: &[u8]) -> bool
     ensures { result ≡ roster_good roster.now }
 {
-    pieces_good::<Entries>(roster)
+    pieces_good::<ENTRY_SIZE, Entries>(roster)
 }
 
 // Every byte becomes 0.

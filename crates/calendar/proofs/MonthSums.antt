@@ -5,7 +5,7 @@ use mathlib.Core.Path.{◌≡◌, refl}
 use mathlib.Core.Logic.{⊎_elim}
 use native.Mathlib.Omega.{arith}
 use native.Mathlib.Numerals.{sub-one}
-use lib.Dec.{eqb}
+use lib.Dec.{leb, eqb}
 use borrow.Author.Tests.{eqb-true}
 use Rattle.fields.specs.Lists.{pick}
 use Rattle.fields.proofs.Bools.{lt-or-le}
@@ -47,6 +47,25 @@ month-before {day = day} {n = suc n} e b l =
           (lt-or-le day (month_start n));
       last = λ k. omega arith;
     }))
+
+-- the sum that a month's first day is, from the years before it, and all 600 of them
+abbrev pub quarters_before_march : ℕ → ℕ
+quarters_before_march m = pick (leb m 1) 7 0
+
+abbrev pub first_day_by : ℕ → ℕ → ℕ
+first_day_by y m = (1461 * y + 4 * ((489 * m + 8) / 16) + quarters_before_march m - 4) / 4
+
+by-sums : (k : ℕ) → k < 600 → first_day_by (k / 12) (k % 12) ≡ month_start k
+unfolding passes days_in pick
+by-sums k l =
+    eqb-true (first_day_by (k / 12) (k % 12)) (month_start k) (passes_at (λ k start. eqb (first_day_by (k / 12) (k % 12)) start) k refl l)
+
+pub first_by : (y m : ℕ) → y ≤ 49 → m ≤ 11 → first_day_by y m ≡ month_start (y * 12 + m)
+first_by y m years months =
+    let p : (y * 12 + m) / 12 ≡ y = omega arith in
+    let q : (y * 12 + m) % 12 ≡ m = omega arith in
+    let same = by-sums (y * 12 + m) (omega arith) in
+    rw (p, q) at same
 
 -- In the fifty years every fourth is a leap year, and from August on the even months have 31 days.
 abbrev pub length_by : ℕ → ℕ → ℕ

@@ -6,7 +6,7 @@ use Rattle.std.proofs.Common.{Option, Some, None, MatchOption, IfSome, Bor, ◌<
 use Rattle.fields.specs.Lists.{series}
 use Rattle.fields.specs.Fields.{u8_at}
 
-series-taken : (s : List ℕ) (at n : ℕ) → at + n ≤ length s → series (u8_at s) at n ≡ take n (drop at s)
+pub series-taken : (s : List ℕ) (at n : ℕ) → at + n ≤ length s → series (u8_at s) at n ≡ take n (drop at s)
 unfolding series
 series-taken s at zero h = refl
 series-taken s at (suc n) h = rw (drop-cons s at 0 (omega arith), series-taken s (at + 1) n (omega arith), add-one)

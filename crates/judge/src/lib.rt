@@ -70,7 +70,7 @@ struct Placed {
     changes: bool,
 }
 
-// The record in slot i, if the slot is used. Inlined, so that a record is read where it lies and not copied into an Option.
+// The record in slot i, if the slot is used. Inlined, so that callers read of it what they ask for and no record is copied.
 #[inline(always)]
 #[tactic(auto, unfolding(crate::specs::Survey::used_record, fields::specs::Lists::pick))]
 fn used_record(b: &[u8], i: u8) -> Option<Record>

@@ -1,6 +1,7 @@
 // The edges of the shift log.
 #![tactic(auto)]
 
+use log_lines::Plain;
 use sent_reports::{MOST_BYTES, REGISTER_SIZE, compose, derating, fresh_register, put_roster_a};
 use std::io;
 
@@ -42,7 +43,7 @@ fn fault(rt: &impl Print, roster: &[u8]) -> io::Result<()> {
 fn line(rt: &impl Print, words: &str, report: &[u8]) -> io::Result<()> {
     let mut register = fresh_register();
     let mut text = [0u8; 128];
-    let logged = log_lines::log_report(&mut register, report, log_lines::at_start(), &mut text);
+    let logged = log_lines::log_report::<Plain>(&mut register, report, log_lines::at_start(), &mut text);
     let ends = if logged.ends { " (ends the run)" } else { "" };
     print!(rt; "{words}{ends}: ")?;
     rt.write_all(&text[..logged.length])
@@ -120,9 +121,9 @@ fn thousands(rt: &impl Print) -> io::Result<()> {
     let mut text = [0u8; 128];
     let mut progress = log_lines::at_start();
     for _ in 0..4999u32 {
-        progress = log_lines::log_report(&mut register, report, progress, &mut text).progress;
+        progress = log_lines::log_report::<Plain>(&mut register, report, progress, &mut text).progress;
     }
-    let last = log_lines::log_report(&mut register, report, progress, &mut text);
+    let last = log_lines::log_report::<Plain>(&mut register, report, progress, &mut text);
     rt.write_all(&text[..last.length])?;
     let end = log_lines::put_totals(&mut text, last.progress.totals);
     rt.write_all(&text[..end])

@@ -1,33 +1,34 @@
 -- The counts of a log's steps, and the log of a list of reports. Assumes nothing.
-use Prim.Native.Nat.{ℕ, ◌+◌, ◌≤◌, ◌<◌}
+use Prim.Native.Nat.{ℕ, ◌+◌, ◌≤◌, ◌<◌, min}
 use mathlib.Core.Path.{◌≡◌, sym, ◌∙◌}
-use mathlib.Core.Bool.{Bool, true, false, ◌&&◌}
+use mathlib.Core.Bool.{Bool, true, false}
 use mathlib.Core.List.{List, [], ◌∷◌, ◌++◌, append_assoc}
 use native.Mathlib.Nat.{add-zero, zero-add}
 use native.Mathlib.Omega.{arith}
-use lib.Dec.{leb}
+use lib.Dec.{ltb}
 use lib.ListN.{length}
-use borrow.Author.Tests.{lt-ltb, le-ltb, leb-true}
+use borrow.Author.Tests.{lt-ltb, ltb-true, ltb-false}
 use Rattle.fields.specs.Lists.{pick, put}
-use Rattle.fields.proofs.Bools.{and_left, and_right}
-use Rattle.report.specs.Report.{most_parts, most_text, parts_start, text_after, head_of}
+use Rattle.fields.proofs.Bools.{pick-elim}
 use Rattle.rules.specs.declared.Answer.{Answer}
 use Rattle.rules.specs.Desk.{answer_to, answers}
 use Rattle.log_lines.specs.declared.Totals.{Totals}
 use Rattle.log_lines.specs.declared.Progress.{Progress}
 use Rattle.log_lines.specs.declared.Logged.{Logged}
-use Rattle.log_lines.specs.Log.{is_clean, is_warned, is_refused, count_of, totals_of, log_line, totals_line}
-use Rattle.log_lines.proofs.Texts.{Line}
+use Rattle.log_lines.specs.Log.{is_clean, is_warned, is_refused, count_of, totals_of, line_with, log_line, totals_line}
+use Rattle.log_lines.specs.Texts.{Puts}
 use Rattle.log_lines.specs.Run.{most_counted, one_more, count_answer, progress_after, at_start, logged_at, logged_with}
-use Rattle.log_lines.specs.Run.{log_from, lines_of, log_of, stated_length}
+use Rattle.log_lines.specs.Run.{log_from, lines_of, log_of}
 
 pub one_more-below : (n : ℕ) → n < most_counted → one_more n ≡ n + 1
 unfolding pick
 one_more-below n l = rw (lt-ltb n most_counted l)
 
-pub no_more : (n : ℕ) → most_counted ≤ n → one_more n ≡ n
-unfolding pick
-no_more n l = rw (le-ltb n most_counted l)
+-- the next count is what a saturating sum gives
+pub saturated : (n : ℕ) → n ≤ most_counted → min (n + 1) most_counted ≡ one_more n
+saturated n h =
+    pick-elim (λ (k : ℕ). min (n + 1) most_counted ≡ k) (ltb n most_counted) (λ t. omega (arith, ltb-true n most_counted t, h))
+    (λ t. omega (arith, ltb-false n most_counted t, h))
 
 -- a count that one answer moves, and those after it
 moved : (n later : ℕ) (t : Bool) → n < most_counted → pick t (one_more n) n + later ≡ n + (pick t 1 0 + later)
@@ -98,30 +99,9 @@ log-of-list register ss room =
     at (log-from ss at_start register (omega (arith, room))
     (record { clean = omega arith; warned = omega arith; refused = omega arith }))
 
--- a step of the log, whichever line is written
-pub logged : (line : ℕ → List ℕ → Answer
-    → List ℕ) (so_far : Progress) (s : List ℕ) {a given : Answer} {p : Progress} {n : ℕ} (here there : List ℕ) → a ≡ given
-    → p ≡ progress_after so_far a → Line here (line p.lines s a) there n → {l : Logged} → l ≡ logged_at p a n
-    → (l ≡ logged_with (line (one_more so_far.lines) s given) so_far given) ×
-    (there ≡ put here 0 (line (one_more so_far.lines) s given))
-logged line so_far s here there same next p all = rw (← same) (all ∙ rw (p.0, next), p.1 ∙ rw next)
-
--- a report's length by its own k and t
-module _ (s : List ℕ) (k t : ℕ) where
-  pub stated-sizes : (leb k most_parts && leb t most_text) ≡ true → (k ≤ most_parts) × (t ≤ most_text)
-  stated-sizes e = (
-    leb-true k most_parts (and_left (leb k most_parts) (leb t most_text) e),
-    leb-true t most_text
-        (and_right (leb k most_parts) (leb t most_text) e),
-  )
-
-  module _ (same-k : k ≡ (head_of s).part_count) (same-t : t ≡ (head_of s).text_length) where
-    pub stated : (leb k most_parts && leb t most_text) ≡ true → text_after k + t ≡ stated_length s
-    unfolding stated_length pick
-    stated e = let f : (leb (head_of s).part_count most_parts && leb (head_of s).text_length most_text) ≡ true =
-        rw (same-k, same-t) at e in rw f (rw (same-k, same-t))
-
-    pub not-stated : (leb k most_parts && leb t most_text) ≡ false → parts_start ≡ stated_length s
-    unfolding stated_length pick
-    not-stated e = let f : (leb (head_of s).part_count most_parts && leb (head_of s).text_length most_text) ≡ false =
-        rw (same-k, same-t) at e in rw f
+-- a step of the log, whichever column its line has
+pub logged : (column : List ℕ → List ℕ) (so_far : Progress) (s : List ℕ) {a given : Answer} {p : Progress} {m n : ℕ} (here there : List ℕ)
+    → a ≡ given → p ≡ progress_after so_far a → Puts m here (line_with column p.lines s a) there n → {l : Logged} → l ≡ logged_at p a n
+    → (l ≡ logged_with (line_with column (one_more so_far.lines) s given) so_far given) ×
+    (there ≡ put here 0 (line_with column (one_more so_far.lines) s given))
+logged column so_far s here there same next p all = rw (← same) (all ∙ rw (p.value, next), p.text_after ∙ rw next)

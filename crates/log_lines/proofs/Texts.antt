@@ -1,38 +1,62 @@
 -- Texts put one after the other, and numbers in decimal. Assumes nothing.
 use Prim.Native.Nat.{ℕ, zero, suc, ◌+◌, ◌*◌, ◌/◌, ◌≤◌, ◌<◌}
+use Rattle.std.proofs.Common.{ap, min, ◌⊎◌, inl, inr}
+use Rattle.std.proofs.Math.Nat.{min-eq_left}
 use mathlib.Core.Path.{◌≡◌, refl, sym, ◌∙◌}
 use mathlib.Core.Bool.{Bool, true, false}
 use mathlib.Core.List.{List, [], ◌∷◌, ◌++◌, append_assoc}
-use native.Mathlib.Nat.{zero-add}
 use native.Mathlib.Omega.{arith}
-use lib.Dec.{ltb, eqb}
+use lib.Dec.{ltb}
 use lib.ListN.{length, length-append}
 use borrow.Author.Tests.{lt-ltb, le-ltb}
 use Rattle.fields.specs.Lists.{pick, put}
-use Rattle.fields.proofs.Bools.{pick-elim}
-use Rattle.fields.proofs.Slices.{put-append}
-use Rattle.quantities.specs.declared.Minute.{Minute}
+use Rattle.fields.proofs.Bools.{pick-elim, lt-or-le}
+use Rattle.fields.proofs.Slices.{put-append, put-past, put-length}
 use Rattle.calendar.specs.Calendar.{digit}
-use Rattle.report.specs.Report.{head_of}
-use Rattle.rules.specs.declared.Answer.{Answer}
-use Rattle.log_lines.specs.declared.Totals.{Totals}
-use Rattle.fields.specs.Ascii.{ascii}
-use Rattle.log_lines.specs.Log.{decimal_before, decimal, space, line_feed, fault_line, set_up_line, unit_text, stamp_text, number_column}
-use Rattle.log_lines.specs.Log.{line_text, totals_line}
+use Rattle.log_lines.specs.declared.Text.{Text}
+use Rattle.log_lines.specs.Texts.{last_place, Writes, Puts}
+use Rattle.log_lines.specs.Log.{decimal_before, decimal}
 use Rattle.log_lines.specs.Run.{most_counted}
 
--- `end` is the place after the text, and `there` has it at `at`
-abbrev pub Put : List ℕ → ℕ → List ℕ → List ℕ → ℕ → Type 0
-Put here at text there end = (end ≡ at + length text) × (there ≡ put here at text)
+-- a place beyond the last one is as good as the last one
+put-in_reach : (s y : List ℕ) (k m : ℕ) → length s ≤ m → put s (min k m) y ≡ put s k y
+put-in_reach s y k m h = by-case (lt-or-le m k) where
+  by-case : (m < k) ⊎ (k ≤ m) → put s (min k m) y ≡ put s k y
+  by-case (inl l) = put-past y s (min k m) (omega (arith, h, l)) ∙ sym (put-past y s k (omega (arith, h, l)))
+  by-case (inr l) = ap (λ (i : ℕ). put s i y) (min-eq_left l)
 
-pub put_then : (here there last : List ℕ) (at mid end : ℕ) (x y : List ℕ) → Put here at x there mid → Put there mid y last end
-    → Put here at (x ++ y) last end
-put_then here there last at mid end x y p q =
-    (q.0 ∙ rw (p.0, length-append x y) (omega arith), q.1 ∙ rw (p.1, p.0) (sym (put-append x y here at)))
+-- one text and then another
+pub then : {m n : ℕ} {a b d : Text} {x y : List ℕ} → Writes m a x b → Writes n b y d → Writes (m + n) a (x ++ y) d
+then {a = a} {x = x} {y = y} p q =
+    let there = put a.bytes.now a.end x in
+    let same : length there ≤ last_place = rw (put-length a.bytes.now a.end x) p.in_reach in
+    record {
+      same_reference = q.same_reference ∙ p.same_reference;
+      end = q.end ∙ rw (p.end, length-append x y) (omega arith);
+      bytes = q.bytes ∙ rw (p.bytes, p.end)
+          (put-in_reach there y (a.end + length x) last_place same ∙ sym (put-append x y a.bytes.now a.end));
+      upper_bound = rw (length-append x y) (omega (arith, p.upper_bound, q.upper_bound));
+      in_reach = p.in_reach;
+    }
 
--- a text that equals another
-pub put_same : (here there : List ℕ) (at end : ℕ) {x y : List ℕ} → x ≡ y → Put here at x there end → Put here at y there end
-put_same here there at end e p = rw e at p
+-- a text that equals another, and may be longer
+pub same_text : {m n : ℕ} {a b : Text} {x y : List ℕ} → x ≡ y → m ≤ n → Writes m a x b → Writes n a y b
+same_text e h p = rw (← e) record {
+  same_reference = p.same_reference;
+  end = p.end;
+  bytes = p.bytes;
+  upper_bound = omega (arith, h, p.upper_bound);
+  in_reach = p.in_reach;
+}
+
+-- a whole text, from the start of the buffer
+pub all_put : {n : ℕ} {a b : Text} {x here there : List ℕ} (m : ℕ) → a.bytes.now ≡ here → a.end ≡ 0 → Writes m a x b
+    → there ≡ b.bytes.now → m ≤ n → m ≤ 1024 → Puts n here x there b.end
+all_put {x = x} m at-first from-start p ends h less = record {
+  upper_bound = rw (p.end, from-start) (omega (arith, p.upper_bound, h));
+  value = p.end ∙ rw from-start (omega (arith, p.upper_bound, less));
+  text_after = ends ∙ p.bytes ∙ rw (at-first, from-start);
+}
 
 -- the digits before a text are the digits, and then the text
 decimal-before : (places n : ℕ) (text : List ℕ) → decimal_before places n text ≡ decimal_before places n [] ++ text
@@ -81,77 +105,17 @@ decimal-more n l h =
     step : decimal n ≡ decimal_before 19 (n / 10) (digit n ∷ [])
     step = rw (le-ltb n 10 l)
 
--- a number put digit by digit
-pub one-digit : (here there : List ℕ) (at n v : ℕ) → n < 10 → v ≡ digit n → there ≡ put here at (v ∷ [])
-    → Put here at (decimal n) there (at + 1)
-one-digit here there at n v l e p = rw (decimal-one n l) (refl, p ∙ rw e)
+pub one-digit : {a b : Text} {n v : ℕ} → n < 10 → v ≡ digit n → Writes 1 a (v ∷ []) b → Writes 20 a (decimal n) b
+one-digit {n = n} l e p = same_text (rw (e, decimal-one n l)) (omega arith) p
 
-pub digit-more : (here mid there : List ℕ) (at end n v : ℕ) → 10 ≤ n → n ≤ most_counted → Put here at (decimal (n / 10)) mid end
-    → v ≡ digit n → there ≡ put mid end (v ∷ []) → Put here at (decimal n) there (end + 1)
-digit-more here mid there at end n v l h p e q =
-    rw (decimal-more n l h) (put_then here mid there at end (end + 1) (decimal (n / 10)) (digit n ∷ []) p (refl, q ∙ rw e))
-
--- a whole line, from the start of the text
-abbrev pub Line : List ℕ → List ℕ → List ℕ → ℕ → Type 0
-Line here text there end = (end ≡ length text) × (there ≡ put here 0 text)
-
-line_of : (here text there : List ℕ) (end : ℕ) → Put here 0 text there end → Line here text there end
-line_of here text there end p = (p.0 ∙ zero-add (length text), p.1)
-
-pub unit-missing : (here there : List ℕ) (at end number unit : ℕ) → eqb number 2 ≡ true → Put here at (45 ∷ 32 ∷ []) there end
-    → Put here at (unit_text number unit ++ space) there end
-unfolding unit_text pick
-unit-missing here there at end number unit e p = rw e p
-
-pub unit-there : (here there : List ℕ) (at end number unit : ℕ) → eqb number 2 ≡ false → Put here at (number_column unit) there end
-    → Put here at (unit_text number unit ++ space) there end
-unfolding unit_text pick
-unit-there here there at end number unit e p = rw e p
-
-pub line-text-put : (line : ℕ) (s : List ℕ) (a : Answer) (unit : ℕ) (stamp : Minute) (here t₁ t₂ t₃ t₄ t₅ t₆ : List ℕ)
-    (e₁ e₂ e₃ e₄ e₅ e₆ : ℕ) → unit ≡ (head_of s).unit → stamp ≡ (head_of s).stamp → Put here 0 (number_column line) t₁ e₁
-    → Put t₁ e₁ (unit_text a.number unit ++ space) t₂ e₂ → Put t₂ e₂ (number_column a.number) t₃ e₃
-    → Put t₃ e₃ (number_column a.warnings) t₄ e₄ → Put t₄ e₄ (number_column a.part) t₅ e₅
-    → Put t₅ e₅ (stamp_text a.number stamp) t₆ e₆ → Line here (line_text line s a) t₆ e₆
-unfolding line_text
-line-text-put line s a unit stamp here t₁ t₂ t₃ t₄ t₅ t₆ e₁ e₂ e₃ e₄ e₅ e₆ same-unit same-stamp line-there unit-put number_put
-    warnings-put part-put stamp-put =
-    let unit-of = rw same-unit at unit-put in
-    let stamp-of = rw same-stamp at stamp-put in
-    let numbered = put_then _ _ _ _ _ _ _ _ (put_then _ _ _ _ _ _ _ _ line-there unit-of) number_put in
-    line_of _ _ _ _
-    (put_then _ _ _ _ _ _ _ _ (put_then _ _ _ _ _ _ _ _ (put_then _ _ _ _ _ _ _ _ numbered warnings-put) part-put) stamp-of)
-
--- a line that is there, and what comes after it
-pub line-then : (here there last : List ℕ) (mid end : ℕ) (x y : List ℕ) → Line here x there mid → Put there mid y last end
-    → Line here (x ++ y) last end
-line-then here there last mid end x y p q =
-    line_of _ _ _ _ (put_then here there last 0 mid end x y (p.0 ∙ sym (zero-add (length x)), p.1) q)
-
-pub totals-put : (t : Totals) (here t₁ t₂ t₃ t₄ t₅ : List ℕ) (e₁ e₂ e₃ e₄ e₅ : ℕ)
-    → Put here 0 (116 ∷ 111 ∷ 116 ∷ 97 ∷ 108 ∷ 32 ∷ []) t₁ e₁ → Put t₁ e₁ (number_column t.clean) t₂ e₂
-    → Put t₂ e₂ (number_column t.warned) t₃ e₃ → Put t₃ e₃ (decimal t.refused) t₄ e₄ → Put t₄ e₄ line_feed t₅ e₅
-    → Line here (totals_line t) t₅ e₅
-unfolding totals_line
-totals-put t here t₁ t₂ t₃ t₄ t₅ e₁ e₂ e₃ e₄ e₅ word-put clean-put warned-put refused-put end-put =
-    line_of _ _ _ _
-    (put_then _ _ _ _ _ _ _ _
-    (put_then _ _ _ _ _ _ _ _ (put_then _ _ _ _ _ _ _ _ (put_then _ _ _ _ _ _ _ _ word-put clean-put) warned-put) refused-put)
-    end-put)
-
--- a number between a word and the line feed
-module _ (number : ℕ) (here t₁ t₂ t₃ : List ℕ) (e₁ e₂ e₃ : ℕ) where
-  number-line : (word : List ℕ) → Put here 0 word t₁ e₁ → Put t₁ e₁ (decimal number) t₂ e₂ → Put t₂ e₂ line_feed t₃ e₃
-      → Line here (word ++ decimal number ++ line_feed) t₃ e₃
-  number-line word word-put number_put end-put =
-      line_of _ _ _ _ (put_then _ _ _ _ _ _ _ _ (put_then _ _ _ _ _ _ _ _ word-put number_put) end-put)
-
-  pub fault-put : Put here 0 (ascii "roster ") t₁ e₁ → Put t₁ e₁ (decimal number) t₂ e₂ → Put t₂ e₂ line_feed t₃ e₃
-      → Line here (fault_line number) t₃ e₃
-  unfolding fault_line
-  fault-put = number-line (ascii "roster ")
-
-  pub set-up-put : Put here 0 (ascii "units set up: ") t₁ e₁ → Put t₁ e₁ (decimal number) t₂ e₂ → Put t₂ e₂ line_feed t₃ e₃
-      → Line here (set_up_line number) t₃ e₃
-  unfolding set_up_line
-  set-up-put = number-line (ascii "units set up: ")
+pub digit-more : {a b d : Text} {n v : ℕ} → 10 ≤ n → n ≤ most_counted → v ≡ digit n → Writes 20 a (decimal (n / 10)) b
+    → Writes 1 b (v ∷ []) d → Writes 20 a (decimal n) d
+digit-more {a = a} {d = d} {n = n} l h e p q =
+    let all : Writes 21 a (decimal n) d = rw (decimal-more n l h, ← e) (then p q) in
+    record {
+      same_reference = all.same_reference;
+      end = all.end;
+      bytes = all.bytes;
+      upper_bound = decimal-length 20 n [];
+      in_reach = all.in_reach;
+    }

@@ -1,3 +1,4 @@
+pub mod Texts
 pub mod Log
 pub mod Remarks
 pub mod Run

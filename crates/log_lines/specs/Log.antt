@@ -34,6 +34,10 @@ header_text = ascii "no unit answer warn part stamp"
 abbrev pub log_header : List ℕ
 log_header = header_text ++ line_feed
 
+-- the header of a log with one title more
+abbrev pub header_with : List ℕ → List ℕ
+header_with title = header_text ++ title ++ line_feed
+
 -- "A roster fault, an entry cut short being 20, prints only "roster" and its number."
 unfoldable pub fault_line : ℕ → List ℕ
 fault_line number = ascii "roster " ++ decimal number ++ line_feed
@@ -60,6 +64,10 @@ line_text line s a =
 
 abbrev pub log_line : ℕ → List ℕ → Answer → List ℕ
 log_line line s a = line_text line s a ++ line_feed
+
+-- the line of a log with one column more
+abbrev pub line_with : (List ℕ → List ℕ) → ℕ → List ℕ → Answer → List ℕ
+line_with column line s a = line_text line s a ++ (column s ++ line_feed)
 
 abbrev pub is_clean : Answer → Bool
 is_clean a = eqb a.number 0 && eqb a.warnings 0

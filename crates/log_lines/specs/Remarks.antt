@@ -26,8 +26,11 @@ standing_remark = ascii "no remark"
 abbrev pub remark_column : List ℕ → List ℕ
 remark_column s = ascii " | " ++ shown (remark_of s standing_remark)
 
+abbrev pub remark_title : List ℕ
+remark_title = ascii " | remark"
+
 abbrev pub remark_line : ℕ → List ℕ → Answer → List ℕ
 remark_line line s a = line_text line s a ++ remark_column s ++ line_feed
 
 abbrev pub remarks_header : List ℕ
-remarks_header = header_text ++ ascii " | remark" ++ line_feed
+remarks_header = header_text ++ remark_title ++ line_feed

@@ -10,7 +10,7 @@ use Rattle.rules.specs.Desk.{answer_to, answers, set_up}
 use Rattle.log_lines.specs.declared.Totals.{Totals}
 use Rattle.log_lines.specs.declared.Progress.{Progress}
 use Rattle.log_lines.specs.declared.Logged.{Logged}
-use Rattle.log_lines.specs.Log.{is_clean, is_warned, is_refused, totals_of, log_header, log_line, totals_line, fault_line}
+use Rattle.log_lines.specs.Log.{is_clean, is_warned, is_refused, totals_of, log_header, line_with, log_line, totals_line, fault_line}
 use Rattle.log_lines.specs.Remarks.{remark_line}
 
 -- "reads roster entries while the mark, both bytes, is 4A 47, at most 8"
@@ -62,12 +62,15 @@ progress_after so_far a = record { lines = one_more so_far.lines; totals = count
 abbrev pub at_start : Progress
 at_start = record { lines = 0; totals = record { clean = 0; warned = 0; refused = 0 } }
 
--- the line of a report that comes after others, alone and with its remark
+-- the line of a report that comes after others: alone, with its remark, and with one column more
 abbrev pub next_line : Progress → List ℕ → List ℕ → List ℕ
 next_line so_far register s = log_line (one_more so_far.lines) s (answer_to register s).answer
 
 abbrev pub next_remark_line : Progress → List ℕ → List ℕ → List ℕ
 next_remark_line so_far register s = remark_line (one_more so_far.lines) s (answer_to register s).answer
+
+abbrev pub next_line_with : (List ℕ → List ℕ) → Progress → List ℕ → List ℕ → List ℕ
+next_line_with column so_far register s = line_with column (one_more so_far.lines) s (answer_to register s).answer
 
 -- the progress, the length of the line that was written, and whether the report was accepted, and ends the run
 abbrev pub logged_at : Progress → Answer → ℕ → Logged
@@ -82,6 +85,10 @@ logged_after so_far register s = logged_with (next_line so_far register s) so_fa
 
 abbrev pub remark_logged : Progress → List ℕ → List ℕ → Logged
 remark_logged so_far register s = logged_with (next_remark_line so_far register s) so_far (answer_to register s).answer
+
+abbrev pub logged_after_with : (List ℕ → List ℕ) → Progress → List ℕ → List ℕ → Logged
+logged_after_with column so_far register s =
+    logged_with (next_line_with column so_far register s) so_far (answer_to register s).answer
 
 -- the log step by step: each report's line, then the totals that the steps have counted
 unfoldable pub log_from : Progress → List ℕ → List (List ℕ) → List ℕ

@@ -2,16 +2,21 @@
 // No line is longer than 128 bytes, and none with a remark than 1,024; what a shorter text has no room for is left out.
 #![tactic(auto)]
 
-ghost use Rattle.std.specs.Prelude.{◌≡◌, List, ◌++◌, ℕ, ◌+◌, ◌≤◌, ◌<◌, length};
+ghost use Rattle.std.specs.Prelude.{◌≡◌, List, [], ◌++◌, ℕ, ◌+◌, ◌*◌, ◌≤◌, ◌<◌, length};
+ghost use Rattle.std.proofs.Common.{rules};
 ghost use Rattle.fields.specs.Lists.{pick, put};
+ghost use Rattle.fields.specs.Ascii.{ascii};
 ghost use Rattle.calendar.specs.Calendar.{digit as digit_of};
+ghost use Rattle.rules.specs.declared.Answer.{Answer};
 ghost use Rattle.rules.specs.Desk.{answer_to};
+ghost use Rattle.log_lines.specs.declared.Progress.{Progress};
 ghost use Rattle.report.specs.Report.{most_parts, most_text, parts_start, text_after};
-ghost use Rattle.log_lines.specs.Log.{decimal, space, log_header, fault_line, set_up_line, unit_text, stamp_text, number_column};
-ghost use Rattle.log_lines.specs.Log.{line_text, log_line, totals_line};
-ghost use Rattle.log_lines.specs.Remarks.{hex_digit, shown_byte, shown, remark_column, remark_line, remarks_header};
+ghost use Rattle.log_lines.specs.Texts.{Writes, Puts};
+ghost use Rattle.log_lines.specs.Log.{decimal, space, line_feed, fault_line, set_up_line, unit_text, stamp_text, number_column};
+ghost use Rattle.log_lines.specs.Log.{line_text, log_header, header_with, log_line, line_with, totals_line};
+ghost use Rattle.log_lines.specs.Remarks.{hex_digit, shown_byte, shown, remark_title, remark_column, remark_line, remarks_header};
 ghost use Rattle.log_lines.specs.Run.{entry_begins, stated_length, most_counted, one_more, count_answer, progress_after, at_start};
-ghost use Rattle.log_lines.specs.Run.{logged_at, logged_after, remark_logged, next_line, next_remark_line, log_from, log_of, shift_log};
+ghost use Rattle.log_lines.specs.Run.{logged_at, logged_after, remark_logged, logged_after_with, next_line_with, log_from, log_of, shift_log};
 ghost use Rattle.log_lines.specs.RosterA.{stream_a, log_a};
 
 use quantities::Minute;
@@ -19,7 +24,7 @@ use report::{MOST_PARTS, MOST_TEXT, PART_SIZE, PARTS_START};
 use rules::Answer;
 
 // The reports accepted clean, accepted with warnings, and refused.
-#[derive(Clone, Copy)]
+#[derive(Clone, Copy, Default)]
 pub struct Totals {
     pub clean: u64,
     pub warned: u64,
@@ -27,7 +32,7 @@ pub struct Totals {
 }
 
 // The lines written so far, and their totals.
-#[derive(Clone, Copy)]
+#[derive(Clone, Copy, Default)]
 pub struct Progress {
     pub lines: u64,
     pub totals: Totals,
@@ -42,14 +47,11 @@ pub struct Logged {
     pub ends: bool,
 }
 
-// Copies a text to `at`; the place after it.
-fn put_text(text: &mut [u8], at: usize, word: &[u8]) -> usize
-    requires { (at ≤ 2048) × (length word.now ≤ 64) }
-    ensures value { result ≡ at + length word.now }
-    ensures text_after { text.new ≡ put text.old at word.now }
-{
-    fields::put_bytes(text, at, word);
-    at + word.len()
+// A text that is put piece by piece from the start of the bytes. `end` is the place after it, and counts what was left out as well.
+#[derive(Drop)]
+pub struct Text<'a> {
+    bytes: &'a mut [u8],
+    end: usize,
 }
 
 fn digit(n: u64) -> u8
@@ -58,83 +60,7 @@ fn digit(n: u64) -> u8
     (48 + n % 10) as u8
 }
 
-fn put_decimal(text: &mut [u8], at: usize, n: u64) -> usize
-    requires { at ≤ 256 }
-    ensures upper_bound { result ≤ at + 20 }
-    ensures value { result ≡ at + length (decimal n) }
-    ensures text_after { text.new ≡ put text.old at (decimal n) }
-{
-    if n < 10 {
-        fields::put_u8(text, at, digit(n));
-        return at + 1;
-    }
-    let last = put_decimal(text, at, n / 10);
-    fields::put_u8(text, last, digit(n));
-    last + 1
-}
-
-fn put_number(text: &mut [u8], at: usize, n: u64) -> usize
-    requires { at ≤ 128 }
-    ensures upper_bound { result ≤ at + 21 }
-    ensures value { result ≡ at + length (number_column n) }
-    ensures text_after { text.new ≡ put text.old at (number_column n) }
-{
-    let end = put_decimal(text, at, n);
-    put_text(text, end, &[b' '])
-}
-
-fn put_unit(text: &mut [u8], at: usize, number: u8, unit: u32) -> usize
-    requires { at ≤ 128 }
-    ensures upper_bound { result ≤ at + 21 }
-    ensures value { result ≡ at + length (unit_text number unit ++ space) }
-    ensures text_after { text.new ≡ put text.old at (unit_text number unit ++ space) }
-{
-    if number == 2 {
-        put_text(text, at, &[b'-', b' '])
-    } else {
-        put_number(text, at, unit as u64)
-    }
-}
-
-// The date, or "-".
-#[tactic(auto, unfolding(crate::specs::Log::stamp_text, fields::specs::Lists::pick))]
-fn put_stamp(text: &mut [u8], at: usize, number: u8, stamp: Minute) -> usize
-    requires { at ≤ 128 }
-    ensures upper_bound { result ≤ at + 16 }
-    ensures value { result ≡ at + length (stamp_text number stamp) }
-    ensures text_after { text.new ≡ put text.old at (stamp_text number stamp) }
-{
-    match calendar::print_date(stamp) {
-        Ok(date) if number != 2 => put_text(text, at, &date),
-        _ => put_text(text, at, b"-"),
-    }
-}
-
-// A report's line at the start of the text, without its line feed. The answer comes as `told` has it: each column is one of its numbers.
-fn put_line_text(text: &mut [u8], line: u64, report: &[u8], a: Answer) -> usize
-    ensures upper_bound { result ≤ 121 }
-    ensures value { result ≡ length (line_text line report.now a) }
-    ensures text_after { text.new ≡ put text.old 0 (line_text line report.now a) }
-{
-    let h = reader::line_head(report);
-    let unit_at = put_number(text, 0, line);
-    let number_at = put_unit(text, unit_at, a.number, h.unit);
-    let warnings_at = put_number(text, number_at, a.number as u64);
-    let part_at = put_number(text, warnings_at, a.warnings as u64);
-    let stamp_at = put_number(text, part_at, a.part as u64);
-    put_stamp(text, stamp_at, a.number, h.stamp)
-}
-
-// The line of a report with its answer, at the start of the text; its length.
-pub fn put_line(text: &mut [u8], line: u64, report: &[u8], a: Answer) -> usize
-    ensures upper_bound { result ≤ 128 }
-    ensures value { result ≡ length (log_line line report.now a) }
-    ensures text_after { text.new ≡ put text.old 0 (log_line line report.now a) }
-{
-    let end = put_line_text(text, line, report, a);
-    put_text(text, end, &[b'\n'])
-}
-
+#[tactic(auto, unfolding(fields::specs::Lists::pick))]
 fn hex_digit(n: u8) -> u8
     requires { n < 16 }
     ensures { result ≡ hex_digit n }
@@ -142,141 +68,255 @@ fn hex_digit(n: u8) -> u8
     if n < 10 { 48 + n } else { 87 + n }
 }
 
-fn put_shown_byte(text: &mut [u8], at: usize, b: u8) -> usize
-    requires { at ≤ 1024 }
-    ensures upper_bound { result ≤ at + 4 }
-    ensures value { result ≡ at + length (shown_byte b) }
-    ensures text_after { text.new ≡ put text.old at (shown_byte b) }
-{
-    if b == b'\\' {
-        return put_text(text, at, b"\\\\");
+impl<'a> Text<'a> {
+    fn new(bytes: &'a mut [u8]) -> Text<'a>
+        ensures same_reference { result.bytes.ghost_name ≡ bytes.entry.ghost_name }
+        ensures bytes { result.bytes.now ≡ bytes.old }
+        ensures end { result.end ≡ 0 }
+    {
+        Text { bytes, end: 0 }
     }
-    if (0x20 <= b) & (b <= 0x7E) {
-        return put_text(text, at, &[b]);
+
+    fn put(&mut self, word: &[u8])
+        ensures { Writes (length word.now) self.old word.now self.new }
+    {
+        fields::put_bytes(self.bytes, self.end, word);
+        self.end = self.end.saturating_add(word.len());
     }
-    let digits_at = put_text(text, at, b"\\x");
-    put_text(text, digits_at, &[hex_digit(b / 16), hex_digit(b % 16)])
+
+    // By hand: `write!` promises its text only where it answers Ok, and the kit's `itoa` would be one more crate to trust.
+    fn put_decimal(&mut self, n: u64)
+        ensures { Writes 20 self.old (decimal n) self.new }
+    {
+        if n >= 10 {
+            self.put_decimal(n / 10);
+        }
+        self.put(&[digit(n)]);
+    }
+
+    fn put_number(&mut self, n: u64)
+        ensures { Writes 21 self.old (number_column n) self.new }
+    {
+        self.put_decimal(n);
+        self.put(b" ");
+    }
+
+    #[tactic(auto, using(crate::proofs::Texts::same_text), unfolding(crate::specs::Log::unit_text, fields::specs::Lists::pick))]
+    fn put_unit(&mut self, number: u8, unit: u32)
+        ensures { Writes 21 self.old (unit_text number unit ++ space) self.new }
+    {
+        if number == 2 {
+            self.put(b"- ");
+        } else {
+            self.put_number(unit as u64);
+        }
+    }
+
+    // The date, or "-".
+    #[tactic(auto, using(crate::proofs::Texts::same_text), unfolding(crate::specs::Log::stamp_text, fields::specs::Lists::pick))]
+    fn put_stamp(&mut self, number: u8, stamp: Minute)
+        ensures { Writes 16 self.old (stamp_text number stamp) self.new }
+    {
+        match calendar::print_date(stamp) {
+            Ok(date) if number != 2 => self.put(&date),
+            _ => self.put(b"-"),
+        }
+    }
+
+    // The columns that every log has. The answer comes as `told` has it: each column is one of its numbers.
+    fn put_columns(&mut self, line: u64, report: &[u8], a: Answer)
+        ensures { Writes 121 self.old (line_text line report.now a) self.new }
+    {
+        let h = reader::line_head(report);
+        self.put_number(line);
+        self.put_unit(a.number, h.unit);
+        self.put_number(a.number as u64);
+        self.put_number(a.warnings as u64);
+        self.put_number(a.part as u64);
+        self.put_stamp(a.number, h.stamp);
+    }
+
+    #[tactic(auto, using(crate::proofs::Texts::same_text), unfolding(crate::specs::Remarks::shown_byte, fields::specs::Lists::pick))]
+    fn put_shown_byte(&mut self, b: u8)
+        ensures { Writes 4 self.old (shown_byte b) self.new }
+    {
+        if b == b'\\' {
+            self.put(b"\\\\");
+        } else if (0x20 <= b) & (b <= 0x7E) {
+            self.put(&[b]);
+        } else {
+            self.put(&[b'\\', b'x', hex_digit(b / 16), hex_digit(b % 16)]);
+        }
+    }
+
+    // A bar, and the bytes of a remark as they are shown.
+    #[tactic(auto, unfolding(crate::specs::Remarks::shown))]
+    fn put_shown(&mut self, remark: &[u8])
+        ensures { Writes (3 + 4 * length remark.now) self.old (ascii " | " ++ shown remark.now) self.new }
+    {
+        self.put(b" | ");
+        for b in remark {
+            self.put_shown_byte(*b);
+        }
+    }
 }
 
-// The bytes of a remark as they are shown.
-fn put_shown(text: &mut [u8], at: usize, bytes: &[u8]) -> usize
-    requires { (at ≤ 128) × (length bytes.now ≤ 200) }
-    ensures upper_bound { result ≤ at + 800 }
-    ensures value { result ≡ at + length (shown bytes.now) }
-    ensures text_after { text.new ≡ put text.old at (shown bytes.now) }
-{
-    let mut end = at;
-    for b in bytes {
-        end = put_shown_byte(text, end, *b);
-    }
-    end
+// What a log has beside the columns of every log: the title, and what follows a report's stamp.
+pub trait Lines {
+    ghost title: { List ℕ };
+
+    ghost column: { List ℕ → List ℕ };
+
+    // how many bytes a line may take beyond 128
+    ghost room: { ℕ };
+
+    fn title() -> &'static [u8]
+        ensures text { result.now ≡ title }
+        ensures upper_bound { length result.now ≤ 97 };
+
+    fn put_column(text: &mut Text, report: &[u8])
+        ensures { Writes room text.old (column report.now) text.new };
+
+    // no line is longer than 1,024 bytes
+    ghost bounded: { room ≤ 896 };
 }
 
-fn put_remark(text: &mut [u8], at: usize, report: &[u8]) -> usize
-    requires { at ≤ 121 }
-    ensures upper_bound { result ≤ at + 803 }
-    ensures value { result ≡ at + length (remark_column report.now) }
-    ensures text_after { text.new ≡ put text.old at (remark_column report.now) }
-{
-    let remark_at = put_text(text, at, b" | ");
-    match report::remark(report, b"no remark") {
-        Ok(found) => put_shown(text, remark_at, found),
-        Err(refused) => put_shown(text, remark_at, refused.stretch),
+// Nothing.
+pub struct Plain;
+
+impl Lines for Plain {
+    ghost title = { [] };
+
+    ghost column = { λ s. [] };
+
+    ghost room = { 0 };
+
+    fn title() -> &'static [u8] {
+        b""
     }
+
+    fn put_column(text: &mut Text, report: &[u8]) {
+        text.put(b"");
+    }
+
+    ghost bounded = { Prim.search rules };
 }
 
-// The line of a report with its answer and its remark.
-pub fn put_remark_line(text: &mut [u8], line: u64, report: &[u8], a: Answer) -> usize
-    ensures upper_bound { result ≤ 1024 }
-    ensures value { result ≡ length (remark_line line report.now a) }
-    ensures text_after { text.new ≡ put text.old 0 (remark_line line report.now a) }
+// Each report's remark.
+pub struct WithRemarks;
+
+impl Lines for WithRemarks {
+    ghost title = { remark_title };
+
+    ghost column = { remark_column };
+
+    ghost room = { 896 };
+
+    fn title() -> &'static [u8] {
+        b" | remark"
+    }
+
+    fn put_column(text: &mut Text, report: &[u8]) {
+        match report::remark(report, b"no remark") {
+            Ok(found) => text.put_shown(found),
+            Err(refused) => text.put_shown(refused.stretch),
+        }
+    }
+
+    ghost bounded = { Prim.search rules };
+}
+
+// This and the functions below answer with the length of the whole text, which a part of a shorter buffer could not say.
+pub fn put_header<L: Lines>(text: &mut [u8]) -> usize
+    ensures { Puts 128 text.old (header_with L.title) text.new result }
 {
-    let remark_at = put_line_text(text, line, report, a);
-    let end = put_remark(text, remark_at, report);
-    put_text(text, end, &[b'\n'])
+    let mut text = Text::new(text);
+    text.put(b"no unit answer warn part stamp");
+    text.put(L::title());
+    text.put(b"\n");
+    text.end
+}
+
+// The line of a report with its answer, at the start of the text; its length.
+pub fn put_line<L: Lines>(text: &mut [u8], line: u64, report: &[u8], a: Answer) -> usize
+    ensures { Puts (128 + L.room) text.old (line_with L.column line report.now a) text.new result }
+{
+    let mut text = Text::new(text);
+    text.put_columns(line, report, a);
+    L::put_column(&mut text, report);
+    text.put(b"\n");
+    text.end
 }
 
 pub fn put_totals(text: &mut [u8], t: Totals) -> usize
-    ensures upper_bound { result ≤ 128 }
-    ensures value { result ≡ length (totals_line t) }
-    ensures text_after { text.new ≡ put text.old 0 (totals_line t) }
+    ensures { Puts 128 text.old (totals_line t) text.new result }
 {
-    let clean_at = put_text(text, 0, b"total ");
-    let warned_at = put_number(text, clean_at, t.clean);
-    let refused_at = put_number(text, warned_at, t.warned);
-    let end = put_decimal(text, refused_at, t.refused);
-    put_text(text, end, &[b'\n'])
+    let mut text = Text::new(text);
+    text.put(b"total ");
+    text.put_number(t.clean);
+    text.put_number(t.warned);
+    text.put_decimal(t.refused);
+    text.put(b"\n");
+    text.end
 }
 
-pub fn put_header(text: &mut [u8]) -> usize
-    ensures upper_bound { result ≤ 128 }
-    ensures value { result ≡ length log_header }
-    ensures text_after { text.new ≡ put text.old 0 log_header }
+// A number after a word, on a line of its own.
+fn put_number_line(text: &mut [u8], word: &[u8], n: u64) -> usize
+    requires { length word.now ≤ 64 }
+    ensures { Puts 128 text.old (word.now ++ decimal n ++ line_feed) text.new result }
 {
-    put_text(text, 0, b"no unit answer warn part stamp\n")
-}
-
-pub fn put_remarks_header(text: &mut [u8]) -> usize
-    ensures upper_bound { result ≤ 128 }
-    ensures value { result ≡ length remarks_header }
-    ensures text_after { text.new ≡ put text.old 0 remarks_header }
-{
-    put_text(text, 0, b"no unit answer warn part stamp | remark\n")
+    let mut text = Text::new(text);
+    text.put(word);
+    text.put_decimal(n);
+    text.put(b"\n");
+    text.end
 }
 
 // What is printed where set-up refuses the roster.
+#[tactic(auto, unfolding(crate::specs::Log::fault_line))]
 pub fn put_fault(text: &mut [u8], number: u8) -> usize
-    ensures upper_bound { result ≤ 128 }
-    ensures value { result ≡ length (fault_line number) }
-    ensures text_after { text.new ≡ put text.old 0 (fault_line number) }
+    ensures { Puts 128 text.old (fault_line number) text.new result }
 {
-    let number_at = put_text(text, 0, b"roster ");
-    let end = put_decimal(text, number_at, number as u64);
-    put_text(text, end, &[b'\n'])
+    put_number_line(text, b"roster ", number as u64)
 }
 
 // What is printed where set-up has made a register file.
+#[tactic(auto, unfolding(crate::specs::Log::set_up_line))]
 pub fn put_set_up(text: &mut [u8], units: u64) -> usize
-    ensures upper_bound { result ≤ 128 }
-    ensures value { result ≡ length (set_up_line units) }
-    ensures text_after { text.new ≡ put text.old 0 (set_up_line units) }
+    ensures { Puts 128 text.old (set_up_line units) text.new result }
 {
-    let number_at = put_text(text, 0, b"units set up: ");
-    let end = put_decimal(text, number_at, units);
-    put_text(text, end, &[b'\n'])
+    put_number_line(text, b"units set up: ", units)
 }
 
+#[tactic(auto, using(crate::proofs::Counts::saturated))]
 fn one_more(n: u64) -> u64
     ensures { result ≡ one_more n }
 {
-    if n < 18446744073709551615 { n + 1 } else { n }
+    n.saturating_add(1)
 }
 
+#[tactic(auto, unfolding(fields::specs::Lists::pick))]
 fn counted(n: u64, counts: bool) -> u64
     ensures { result ≡ pick counts (one_more n) n }
 {
     if counts { one_more(n) } else { n }
 }
 
+#[tactic(auto, unfolding(crate::specs::Run::count_answer))]
 fn count_answer(t: Totals, a: Answer) -> Totals
     ensures { result ≡ count_answer t a }
 {
     Totals {
         clean: counted(t.clean, (a.number == 0) & (a.warnings == 0)),
-        warned: counted(t.warned, (a.number == 0) & !(a.warnings == 0)),
-        refused: counted(t.refused, !(a.number == 0)),
+        warned: counted(t.warned, (a.number == 0) & (a.warnings != 0)),
+        refused: counted(t.refused, a.number != 0),
     }
 }
 
 pub fn at_start() -> Progress
     ensures { result ≡ at_start }
 {
-    let totals = Totals {
-        clean: 0,
-        warned: 0,
-        refused: 0,
-    };
-    Progress { lines: 0, totals }
+    Progress::default()
 }
 
 fn progress_after(so_far: Progress, a: Answer) -> Progress
@@ -302,28 +342,20 @@ fn logged_at(progress: Progress, a: Answer, length: usize) -> Logged
 }
 
 // Answers a report on the register, and puts its line at the start of the text.
-pub fn log_report(register: &mut [u8], report: &[u8], so_far: Progress, text: &mut [u8]) -> Logged
-    ensures length_bound { result.length ≤ 128 }
-    ensures value { result ≡ logged_after so_far register.old report.now }
-    ensures text_after { text.new ≡ put text.old 0 (next_line so_far register.old report.now) }
+pub fn log_report<L: Lines>(
+    register: &mut [u8],
+    report: &[u8],
+    so_far: Progress,
+    text: &mut [u8],
+) -> Logged
+    ensures length_bound { result.length ≤ 128 + L.room }
+    ensures value { result ≡ logged_after_with L.column so_far register.old report.now }
+    ensures text_after { text.new ≡ put text.old 0 (next_line_with L.column so_far register.old report.now) }
     ensures register_after { register.new ≡ (answer_to register.old report.now).after }
 {
     let a = desk::told(desk::answer_report(register, report));
     let progress = progress_after(so_far, a);
-    let length = put_line(text, progress.lines, report, a);
-    logged_at(progress, a, length)
-}
-
-// The same, with the remark beside the line.
-pub fn log_remark(register: &mut [u8], report: &[u8], so_far: Progress, text: &mut [u8]) -> Logged
-    ensures length_bound { result.length ≤ 1024 }
-    ensures value { result ≡ remark_logged so_far register.old report.now }
-    ensures text_after { text.new ≡ put text.old 0 (next_remark_line so_far register.old report.now) }
-    ensures register_after { register.new ≡ (answer_to register.old report.now).after }
-{
-    let a = desk::told(desk::answer_report(register, report));
-    let progress = progress_after(so_far, a);
-    let length = put_remark_line(text, progress.lines, report, a);
+    let length = put_line::<L>(text, progress.lines, report, a);
     logged_at(progress, a, length)
 }
 
@@ -335,6 +367,7 @@ pub fn entry_begins(input: &[u8]) -> bool
 }
 
 // A report's length by its own k and t.
+#[tactic(auto, unfolding(crate::specs::Run::stated_length, fields::specs::Lists::pick))]
 pub fn stated_length(head: &[u8]) -> usize
     ensures value { result ≡ stated_length head.now }
     ensures bounds { (parts_start ≤ result) × (result ≤ text_after most_parts + most_text) }
@@ -347,6 +380,16 @@ pub fn stated_length(head: &[u8]) -> usize
         PARTS_START
     }
 }
+
+// What is promised of a log with one column more is promised of the log and of the log with remarks.
+pub fn both_logs_are_instances()
+    ensures header { header_with ⟦<Plain as Lines>⟧.title ≡ log_header }
+    ensures line { (n : ℕ) (s : List ℕ) (a : Answer) → line_with ⟦<Plain as Lines>⟧.column n s a ≡ log_line n s a }
+    ensures logged { (so_far : Progress) (register s : List ℕ) → logged_after_with ⟦<Plain as Lines>⟧.column so_far register s ≡ logged_after so_far register s }
+    ensures remarks_header { header_with ⟦<WithRemarks as Lines>⟧.title ≡ remarks_header }
+    ensures remark_line { (n : ℕ) (s : List ℕ) (a : Answer) → line_with ⟦<WithRemarks as Lines>⟧.column n s a ≡ remark_line n s a }
+    ensures remark_logged { (so_far : Progress) (register s : List ℕ) → logged_after_with ⟦<WithRemarks as Lines>⟧.column so_far register s ≡ remark_logged so_far register s }
+{}
 
 // The lines and totals that the steps write for a list of reports are those of the definition's answers: the totals count them.
 pub fn totals_count_the_answers()

@@ -9,6 +9,7 @@ ghost use Rattle.std.specs.Prelude.{◌≡◌, ◌≤◌, length};
 
 use block::{BLOCK_SIZE, ENTRY_SIZE};
 use disk::{RegisterFile, say};
+use log_lines::Plain;
 use std::env::Env;
 use std::io::{Eprint, Print, Read};
 use std::rt::Files;
@@ -111,7 +112,7 @@ fn answer_stream<R: Files + Print + Eprint + Alloc, I: Read>(
     register: &mut [u8],
 ) -> Result<(), Said> {
     let mut text = [0u8; 65536];
-    let length = log_lines::put_header(&mut text);
+    let length = log_lines::put_header::<Plain>(&mut text);
     print(rt, &text[..length])?;
     let mut window = Window::new();
     let mut progress = log_lines::at_start();

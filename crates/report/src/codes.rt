@@ -1,5 +1,6 @@
-// The codes of reports. Each is a type of all its byte's numbers: questions 1, 4 and 20 refuse those that mean nothing, so that an enum,
-// which can't hold them, would ask more of callers.
+// The codes of reports. Questions 1, 4 and 20 refuse the numbers that mean nothing, so each type holds all 256 of its byte. An enum with a case
+// `Other(u8)` would have two values for one byte, and its order and both conversions by hand; these derive their order, and a clause or
+// definition says `.0` for the papers' number.
 #![tactic(auto)]
 
 // What a record is of.

@@ -1,14 +1,14 @@
 -- Question 18's table: what looking up finds. Assumes nothing.
 use Prim.Native.Nat.{ℕ}
 use mathlib.Core.Path.{◌≡◌, refl, sym, ◌∙◌}
-use mathlib.Core.Bool.{Bool, true, false, ◌&&◌, false≢true}
+use mathlib.Core.Bool.{Bool, true, false, ◌&&◌, ◌||◌, false≢true}
 use mathlib.Core.List.{List, [], ◌∷◌}
 use mathlib.Core.Logic.{⊎_elim}
 use lib.Dec.{eqb}
 use borrow.Author.Tests.{eqb-true}
 use Rattle.fields.specs.Lists.{pick, all}
 use Rattle.fields.proofs.Bools.{and_left, and_right, or_cases, pick-elim}
-use Rattle.rules.specs.Codes.{between, R, RP}
+use Rattle.rules.specs.Codes.{between, R, RO, U1, U2, P, RP}
 use Rattle.rules.specs.Transitions.{Transition, transition, event_transitions, applies, look_up, event_leads_to, is_listed, listed_once}
 
 -- the transition that is listed for a code and a state has them
@@ -91,3 +91,23 @@ module _ (code state : ℕ) where
     by-case : (t : Bool) → eqb (event_leads_to code state) 0 ≡ t → event_leads_to code state ≡ 0
     by-case true e = eqb-true (event_leads_to code state) 0 e
     by-case false e = absurd (false≢true (rw outside at (leads-in-range e)))
+
+pick-or : (t u : Bool) (a b : ℕ) → pick (t || u) a b ≡ pick t a (pick u a b)
+unfolding pick
+pick-or true u a b = refl
+pick-or false u a b = refl
+
+-- the ten transitions, those to one state taken together, as `row` matches them
+pub looked-up : (code state : ℕ)
+    → event_leads_to code state
+    ≡ pick (eqb code 1 && eqb state R) RO
+    (pick (eqb code 2 && eqb state RO) U1
+    (pick (eqb code 3 && eqb state U1) U2
+    (pick (eqb code 3 && eqb state RP || eqb code 4 && eqb state U2) P
+    (pick
+    (eqb code 5 && eqb state P || eqb code 5 && eqb state RP || eqb code 6 && eqb state RO || eqb code 6 && eqb state U1
+    || eqb code 6 && eqb state U2)
+    R
+    0))))
+unfolding event_leads_to look_up
+looked-up code state = simp pick-or

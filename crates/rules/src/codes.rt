@@ -1,4 +1,6 @@
-// The codes of units. Each is a type of all its byte's numbers, as those of reports are (`report::codes`).
+// The codes of units. Questions 1, 4 and 20 refuse the numbers that mean nothing, so each type holds all 256 of its byte. An enum with a case
+// `Other(u8)` would have two values for one byte, and its order and both conversions by hand; these derive their order, and a clause or
+// definition says `.0` for the papers' number.
 #![tactic(auto)]
 
 // What a unit is.
@@ -15,7 +17,7 @@ impl Kind {
     pub const A: Kind = Kind(4);
 }
 
-// A W1's state; a unit of another kind has none.
+// A W1's state; a unit of another kind has none. No Option: until it is refused, such a unit can hold any number here.
 #[derive(Clone, Copy, Debug, PartialEq, Eq, PartialOrd, Ord)]
 pub struct State(pub u8);
 
@@ -33,8 +35,6 @@ impl State {
     pub const P: State = State(5);
 
     pub const RP: State = State(6);
-
-    pub const RE: State = State(8);
 }
 
 // The qualification in a unit's row after an event of code 5 or 6.

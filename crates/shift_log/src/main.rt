@@ -5,61 +5,10 @@
 ghost use Rattle.std.specs.Prelude.{◌+◌, ◌*◌, ◌≤◌, length, IfOk};
 
 use block::{BLOCK_SIZE, ENTRY_SIZE};
-use log_lines::{Logged, Progress};
+use log_lines::{Lines, Plain, WithRemarks};
 use std::env::{Env, FillError};
 use std::io::{Eprint, Print, Read};
 use streams::Said;
-
-// What the log shows of a report.
-trait Lines {
-    fn put_header(&self, text: &mut [u8; 1024]) -> usize
-        ensures { result ≤ 1024 };
-
-    fn log_report(
-        &self,
-        register: &mut [u8],
-        report: &[u8],
-        so_far: Progress,
-        text: &mut [u8; 1024],
-    ) -> Logged
-        ensures { result.length ≤ 1024 };
-}
-
-struct Plain;
-
-impl Lines for Plain {
-    fn put_header(&self, text: &mut [u8; 1024]) -> usize {
-        log_lines::put_header(text)
-    }
-
-    fn log_report(
-        &self,
-        register: &mut [u8],
-        report: &[u8],
-        so_far: Progress,
-        text: &mut [u8; 1024],
-    ) -> Logged {
-        log_lines::log_report(register, report, so_far, text)
-    }
-}
-
-struct WithRemarks;
-
-impl Lines for WithRemarks {
-    fn put_header(&self, text: &mut [u8; 1024]) -> usize {
-        log_lines::put_remarks_header(text)
-    }
-
-    fn log_report(
-        &self,
-        register: &mut [u8],
-        report: &[u8],
-        so_far: Progress,
-        text: &mut [u8; 1024],
-    ) -> Logged {
-        log_lines::log_remark(register, report, so_far, text)
-    }
-}
 
 // How many entries begin the input, their length, and how many bytes came after them.
 #[derive(Clone, Copy)]
@@ -72,9 +21,9 @@ struct Start {
 fn main(rt: HostRuntime) {
     let mut word = [0u8; 8];
     match rt.arg(1, &mut word) {
-        Err(FillError::NotPresent) => run(&rt, &Plain),
+        Err(FillError::NotPresent) => run::<Plain>(&rt),
         Ok(length) if (&word[..length] == b"remarks".as_slice()) & !streams::has_arg(&rt, 2) => {
-            run(&rt, &WithRemarks)
+            run::<WithRemarks>(&rt)
         }
         _ => {
             let _ = rt.eprintln("shift_log: the one argument that it takes is remarks");
@@ -83,15 +32,14 @@ fn main(rt: HostRuntime) {
 }
 
 // What went wrong was said.
-fn run<L: Lines>(rt: &HostRuntime, lines: &L) {
-    let _ = log_input(rt, &mut rt.stdin(), lines);
+fn run<L: Lines>(rt: &HostRuntime) {
+    let _ = log_input::<L, _, _>(rt, &mut rt.stdin());
 }
 
 // After a failed read nothing is set up.
-fn log_input<R: Print + Eprint + Alloc, I: Read, L: Lines>(
+fn log_input<L: Lines, R: Print + Eprint + Alloc, I: Read>(
     rt: &R,
     reader: &mut I,
-    lines: &L,
 ) -> Result<(), Said> {
     let mut input = [0u8; 226];
     let start = read_roster(rt, reader, &mut input)?;
@@ -104,7 +52,7 @@ fn log_input<R: Print + Eprint + Alloc, I: Read, L: Lines>(
     let mut report = [0u8; 1850];
     let ahead = start.ahead;
     report[..ahead].copy_from_slice(&input[end..end + ahead]);
-    log_reports(rt, reader, lines, &mut register[..size], &mut report, ahead)
+    log_reports::<L, _, _>(rt, reader, &mut register[..size], &mut report, ahead)
 }
 
 fn print_fault<R: Print + Eprint + Alloc>(rt: &R, number: u8) -> Result<(), Said> {
@@ -172,10 +120,9 @@ fn read_report<R: Eprint + Alloc, I: Read>(
 }
 
 // Nothing is written after a failure. A proved loop has to end: it has more turns than any input needs.
-fn log_reports<R: Print + Eprint + Alloc, I: Read, L: Lines>(
+fn log_reports<L: Lines, R: Print + Eprint + Alloc, I: Read>(
     rt: &R,
     reader: &mut I,
-    lines: &L,
     register: &mut [u8],
     report: &mut [u8; 1850],
     ahead: usize,
@@ -183,7 +130,7 @@ fn log_reports<R: Print + Eprint + Alloc, I: Read, L: Lines>(
     requires { ahead ≤ 48 }
 {
     let mut text = [0u8; 1024];
-    let length = lines.put_header(&mut text);
+    let length = log_lines::put_header::<L>(&mut text);
     print(rt, &text[..length])?;
     let mut progress = log_lines::at_start();
     let mut got = read_report(rt, reader, report, ahead)?;
@@ -191,7 +138,7 @@ fn log_reports<R: Print + Eprint + Alloc, I: Read, L: Lines>(
         if got == 0 {
             break;
         }
-        let logged = lines.log_report(register, &report[..got], progress, &mut text);
+        let logged = log_lines::log_report::<L>(register, &report[..got], progress, &mut text);
         print(rt, &text[..logged.length])?;
         progress = logged.progress;
         if logged.ends {

@@ -6,7 +6,7 @@ use Rattle.after.proofs.apply.Goals as goal
 pub set_slots-requires : goal.set_slots-requires
 set_slots-requires c =
     let k = tested c.args.b.now _ c.head_of-h.ensures c.if-b-h.true in
-    record { b_len = k.0; few_parts = k.1 }
+    k.0
 
 pub returns-then-b-h : goal.returns-then-b-h
 returns-then-b-h c =

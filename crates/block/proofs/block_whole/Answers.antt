@@ -1,34 +1,24 @@
-use Rattle.block.proofs.FreeSlots.{apart-few}
-use Rattle.block.proofs.Turns.{wrong_size, wrong-head, wrong-slot, last-asked}
+use Rattle.std.proofs.Common.{refl, ap, ◌∙◌}
+use Rattle.block.specs.Slot.{head_whole}
+use Rattle.block.proofs.Turns.{wrong_size, wrong-head, block-answer}
 use Rattle.block.proofs.block_whole.Goals as goal
 
-pub returns-then-b-ne-BLOCK_SIZE : goal.returns-then-b-ne-BLOCK_SIZE
-returns-then-b-ne-BLOCK_SIZE c = wrong_size _ _ c.if-b-ne-BLOCK_SIZE.true
+pub returns-in_default : goal.returns-in_default
+returns-in_default c = wrong_size c.args.unit c.args.b.now c.in_default.ensures.cases
 
 pub returns-then-not-head_whole : goal.returns-then-not-head_whole
-returns-then-not-head_whole c = wrong-head _ _ c.if-b-ne-BLOCK_SIZE.false c.head_whole.ensures c.if-not-head_whole.true
+returns-then-not-head_whole c =
+    let d = c.in-Some.ensures.cases in
+    wrong-head c.args.unit c.args.b.now d.long (c.head_whole.ensures ∙ ap (head_whole c.args.unit) d.same) c.if-not-head_whole.true
 
-pub slots_whole-requires : goal.slots_whole-requires
-slots_whole-requires c = record {
-  b_len = c.if-b-ne-BLOCK_SIZE.false;
-  free_from = c.free_from-end.ensures;
-}
+pub returns-then-slots_whole : goal.returns-then-slots_whole
+returns-then-slots_whole c =
+    let d = c.in-Some.ensures.cases in
+    rw c.if-slots_whole.true at (block-answer c.args.unit c.args.b.now d.long d.same c.head_whole.ensures c.if-not-head_whole.false
+    c.unit_head-h.ensures c.slots_of-slots.ensures c.free_from-end.ensures c.slots_whole.ensures c.slots_apart.ensures)
 
-pub returns-then-not-slots_whole : goal.returns-then-not-slots_whole
-returns-then-not-slots_whole c = wrong-slot _ _ c.if-b-ne-BLOCK_SIZE.false
-    c.head_whole.ensures c.if-not-head_whole.false
-    c.unit_head-h.ensures c.slots_whole.ensures c.if-not-slots_whole.true
-
-pub returns-then-end-le1 : goal.returns-then-end-le1
-returns-then-end-le1 c = last-asked _ _ c.if-b-ne-BLOCK_SIZE.false
-    c.head_whole.ensures
-    c.if-not-head_whole.false c.unit_head-h.ensures
-    c.slots_whole.ensures c.if-not-slots_whole.false
-    (apart-few _ c.free_from-end.ensures c.if-end-le1.true)
-
-pub returns : goal.returns
-returns c = last-asked _ _ c.if-b-ne-BLOCK_SIZE.false
-    c.head_whole.ensures
-    c.if-not-head_whole.false
-    c.unit_head-h.ensures c.slots_whole.ensures
-    c.if-not-slots_whole.false c.slots_apart.ensures
+pub returns-else-slots_whole : goal.returns-else-slots_whole
+returns-else-slots_whole c =
+    let d = c.in-Some.ensures.cases in
+    c.if-slots_whole.false ∙ rw c.if-slots_whole.false at (block-answer c.args.unit c.args.b.now d.long d.same c.head_whole.ensures c.if-not-head_whole.false
+    c.unit_head-h.ensures c.slots_of-slots.ensures c.free_from-end.ensures c.slots_whole.ensures refl)

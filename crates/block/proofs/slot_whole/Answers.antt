@@ -14,10 +14,7 @@ returns-then-not-holds_alone c = fails-alone _ _ _ c.is_used.ensures
     c.if-not-holds_alone.true
 
 pub pairs_fit-requires : goal.pairs_fit-requires
-pairs_fit-requires c = record {
-  k_in_bounds = omega arith;
-  times_bound = alone-times _ _ _ c.holds_alone.ensures c.if-not-holds_alone.false;
-}
+pairs_fit-requires c = alone-times _ _ _ c.holds_alone.ensures c.if-not-holds_alone.false
 
 pub returns-then-is_used : goal.returns-then-is_used
 returns-then-is_used c = rw (
@@ -25,6 +22,7 @@ returns-then-is_used c = rw (
   c.zeros_at.ensures,
   c.choose.ensures,
   c.pairs_fit.ensures,
+  c.pairs_of.ensures,
   c.is_levelled.ensures,
   c.record_in-r.ensures,
 )
@@ -32,4 +30,4 @@ returns-then-is_used c = rw (
 
 pub returns : goal.returns
 returns c = c.all_zero.ensures
-    ∙ sym (free-slot _ _ _ c.is_used.ensures c.if-is_used.false c.requires)
+    ∙ sym (free-slot _ _ _ c.is_used.ensures c.if-is_used.false (omega arith))

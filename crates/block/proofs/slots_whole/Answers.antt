@@ -1,29 +1,20 @@
-use mathlib.Core.Path.{ap, ◌∙◌}
-use native.Mathlib.Omega.{arith}
+use Rattle.std.proofs.Common.{◌≡◌, [], rules, sym, ◌∙◌, take}
+use Rattle.std.specs.List.{list_all}
+use Rattle.std.proofs.lemmas.List.Elements.{All-from_get_or}
+use Rattle.std.proofs.lemmas.Iterator.{YieldsList-from_slice}
+use Rattle.std.proofs.lemmas.Iterator.Search.{all_from_yields_List}
+use borrow.Author.Tests.{tests}
+use lib.ListN.{length}
+use Rattle.rules.specs.Block.{slot_size}
 use Rattle.rules.specs.Whole.{slot_whole}
-use Rattle.fields.proofs.Tests.{tested-none, tested-all}
-use Rattle.block.proofs.FreeSlots.{slots-through}
-use Rattle.block.proofs.Turns.{passes_on, fails-here, slot-long}
+use Rattle.block.proofs.FreeSlots.{slots-free}
 use Rattle.block.proofs.slots_whole.Goals as goal
 
-pub loop-i-init : goal.loop-i-init
-loop-i-init c = tested-none
-
-pub returns-then-end-i : goal.returns-then-end-i
-returns-then-end-i c = slots-through _ c.requires.b_len _ _
-    c.requires.free_from c.loop-i.invariant c.if-end-i.true
-    c.zeros_at.ensures
-
-pub slot_whole-requires : goal.slot_whole-requires
-slot_whole-requires c = slot-long _ _ c.requires.b_len (omega arith) c.slot_at.ensures
-
-pub returns-then-not-slot_whole : goal.returns-then-not-slot_whole
-returns-then-not-slot_whole c = fails-here c.loop-i.invariant (omega arith)
-    (c.slot_whole.ensures ∙ ap (slot_whole _ _) c.slot_at.ensures) c.if-not-slot_whole.true
-
-pub loop-i-preserved : goal.loop-i-preserved
-loop-i-preserved c = passes_on c.loop-i.invariant (omega arith)
-    (c.slot_whole.ensures ∙ ap (slot_whole _ _) c.slot_at.ensures) c.if-not-slot_whole.false
-
-pub returns : goal.returns
-returns c = tested-all c.loop-i.invariant c.loop-i-test.false
+pub returns-then-all : goal.returns-then-all
+returns-then-all c =
+    let taken : c.all.result ≡ list_all (slot_whole c.args.kind.0 c.args.last) (take c.args.end c.args.slots.now) =
+    all_from_yields_List (slot_whole c.args.kind.0 c.args.last) _ _ _ c.all.ensures.ran
+    (YieldsList-from_slice _ (c.iter.ensures.rest ∙ c.split_at.ensures.front)) (λ x b q k. search (rules, tests)) in
+    let long = All-from_get_or (λ z. length z ≡ slot_size) c.args.slots.now [] c.told-slots in
+    let both = slots-free c.args.kind.0 c.args.last c.args.slots.now c.args.end c.requires long in
+    c.all_zero.ensures ∙ rw (c.as_flattened.ensures.value, c.split_at.ensures.back) (rw (sym taken ∙ c.if-all.true) at both)

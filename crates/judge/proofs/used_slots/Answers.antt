@@ -1,6 +1,6 @@
 use Rattle.std.proofs.Common.{rules}
 use Rattle.rules.specs.Block.{slot_at, used}
-use Rattle.levels.proofs.Made.{made-series}
+use Rattle.fields.proofs.Made.{made-series}
 use Rattle.judge.proofs.used_slots.Goals as goal
 
 pub returns : goal.returns

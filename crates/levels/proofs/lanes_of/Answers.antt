@@ -1,7 +1,7 @@
 use Rattle.std.proofs.Common.{rules}
 use Rattle.levels.specs.Lanes.{lane_at}
 use Rattle.levels.proofs.Counted.{records-levels}
-use Rattle.levels.proofs.Made.{made-series}
+use Rattle.fields.proofs.Made.{made-series}
 use Rattle.levels.proofs.lanes_of.Goals as goal
 
 pub returns : goal.returns

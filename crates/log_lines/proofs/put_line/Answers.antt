@@ -1,8 +1,8 @@
-use native.Mathlib.Omega.{arith}
-use Rattle.log_lines.proofs.Texts.{line-then}
+use Rattle.std.proofs.Common.{rules, arith}
+use Rattle.log_lines.proofs.Texts.{then, all_put}
 use Rattle.log_lines.proofs.put_line.Goals as goal
 
 pub returns : goal.returns
-returns c =
-    let said = line-then _ _ _ _ _ _ _ (c.put_line_text-end.ensures.value, c.put_line_text-end.ensures.text_after) (c.put_text.ensures.value, c.put_text.ensures.text_after) in
-    record { upper_bound = omega arith; value = said.0; text_after = said.1 }
+returns g c =
+    let new = c.new-text.ensures in
+    all_put _ new.bytes new.end (then c.put_columns.ensures (then c.put_column.ensures c.put.ensures)) (search rules) (omega arith) (omega (arith, g.met.L.Lines.bounded))

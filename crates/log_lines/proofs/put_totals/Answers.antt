@@ -1,9 +1,11 @@
-use native.Mathlib.Omega.{arith}
-use Rattle.log_lines.proofs.Texts.{totals-put}
+use Rattle.std.proofs.Common.{rules, arith}
+use Rattle.log_lines.specs.Log.{totals_line}
+use Rattle.log_lines.proofs.Texts.{then, all_put}
 use Rattle.log_lines.proofs.put_totals.Goals as goal
 
 pub returns : goal.returns
+unfolding totals_line
 returns c =
-    let said = totals-put _ _ _ _ _ _ _ _ _ _ _ _ (c.put_text-clean_at.ensures.value, c.put_text-clean_at.ensures.text_after) (c.put_number-warned_at.ensures.value, c.put_number-warned_at.ensures.text_after)
-    (c.put_number-refused_at.ensures.value, c.put_number-refused_at.ensures.text_after) (c.put_decimal-end.ensures.value, c.put_decimal-end.ensures.text_after) (c.put_text.ensures.value, c.put_text.ensures.text_after) in
-    record { upper_bound = omega arith; value = said.0; text_after = said.1 }
+    let new = c.new-text.ensures in
+    let accepted = then (then c.put.ensures c.put_number.ensures) c.put_number-2.ensures in
+    all_put _ new.bytes new.end (then (then accepted c.put_decimal.ensures) c.put-2.ensures) (search rules) (omega arith) (omega arith)

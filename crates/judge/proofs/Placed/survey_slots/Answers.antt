@@ -1,6 +1,6 @@
 use Rattle.std.proofs.Common.{rules}
 use Rattle.judge.specs.Survey.{answers_at, survey_of}
-use Rattle.levels.proofs.Made.{made-series}
+use Rattle.fields.proofs.Made.{made-series}
 use Rattle.judge.proofs.Placed.survey_slots.Goals as goal
 
 pub returns : goal.returns
