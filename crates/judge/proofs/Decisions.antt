@@ -4,15 +4,13 @@ use mathlib.Core.Path.{◌≡◌, refl, ap, sym, ◌∙◌}
 use mathlib.Core.Bool.{Bool, true, false, not}
 use mathlib.Core.List.{List, [], ◌∷◌}
 use native.Mathlib.Omega.{arith}
-use native.Mathlib.Nat.{zero-add}
 use lib.Dec.{ltb}
-use lib.ListN.{get_or}
 use borrow.Author.Tests.{ltb-false}
 use Rattle.std.specs.Prelude.{Option, Result, Ok, map, position, ⊤}
 use Rattle.std.specs.List.{list_any, list_all}
 use Rattle.std.specs.Option.{is_some, unwrap_or}
 use Rattle.fields.specs.Lists.{pick, all, series, seek}
-use Rattle.fields.proofs.Tests.{series-at, seek-most}
+use Rattle.fields.proofs.Tests.{seek-most}
 use Rattle.quantities.specs.declared.Minute.{Minute}
 use Rattle.report.specs.declared.Head.{Head}
 use Rattle.report.specs.declared.Part.{Part}
@@ -22,11 +20,12 @@ use Rattle.rules.specs.declared.Refusal.{Refusal}
 use Rattle.rules.specs.declared.UnitHead.{UnitHead}
 use Rattle.rules.specs.Block.{slot_count, slot_numbered, unit_head}
 use Rattle.rules.specs.Questions.{creation_head, record_by, record_at, holder, held_record, other, leaves, stays, clash_closed, free_slot, changes_by, changes_state, question15, question16, question18, question19}
-use Rattle.rules.specs.Minutes.{FullRecord, reported_records, question17}
+use Rattle.rules.specs.Minutes.{records_among, reported_records, question17}
 use Rattle.rules.specs.After.{rewrites, slot_written, cleared, some_slot}
 use Rattle.rules.specs.Judge.{must, validation_number, held_number, limit_number, refusal_number}
 use Rattle.rules.proofs.Slots.{numbered}
-use Rattle.levels.specs.Counted.{report_record, swept_records}
+use Rattle.levels.specs.Counted.{swept_records}
+use Rattle.levels.proofs.Ranges.{range-any}
 use Rattle.validation.proofs.InOrder.{then_assoc, link, stage}
 use Rattle.validation.specs.declared.Validated.{Validated}
 use Rattle.validation.specs.FirstNo.{◌then◌, outcome}
@@ -34,8 +33,6 @@ use Rattle.validation.specs.Parts.{validated_of}
 use Rattle.judge.specs.declared.SlotAnswers.{SlotAnswers}
 use Rattle.judge.specs.Survey.{holder_of, slot_answers, answers_at, survey_of, free_among}
 use Rattle.judge.specs.Decided.{written_by, holder_asked, limits_asked, limits_by, limits_decided, surveyed_decision, accepted_decision, decision_of}
-use Rattle.levels.proofs.Ranges.{range-any}
-use Rattle.judge.proofs.Joins.{records-same}
 
 -- questions 10 to 14, and 15 to 19, asked by number and as code asks them
 module _ (h : Head) (ps : List Part) {A : Type 0} (value : A) where
@@ -132,13 +129,9 @@ module _ (b s : List ℕ) where
   unfolding series
   cleared_are = refl
 
-  flag_at : (f : ℕ → Bool) (j : ℕ) → j < 8 → get_or (series f 0 8) j false ≡ f j
-  flag_at f j l = series-at f 0 8 j false l ∙ ap f (zero-add j)
-
   swept-is : swept_records b s (series (other b s) 0 slot_count) true ≡ reported_records b s
-  unfolding swept_records reported_records pick
-  swept-is = ap (λ (ws : List FullRecord). report_record s ∷ ws) (records-same b _ (other b s) 0 8 (λ j x y. flag_at (other b s) j
-      (omega arith)))
+  unfolding swept_records reported_records records_among series pick
+  swept-is = refl
 
   written_is : written_by (head_of s) (slot_numbered (holder b s)) (slot_numbered (free_slot b s)) ≡ slot_numbered (slot_written b s)
   unfolding written_by slot_written pick

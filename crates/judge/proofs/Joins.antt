@@ -1,20 +1,19 @@
 -- What the code joins is what the definitions join: each law takes what the callees ensure. Assumes nothing.
-use Prim.Native.Nat.{ℕ, zero, suc, ◌+◌, ◌≤◌, ◌<◌}
-use Rattle.std.specs.Prelude.{Option, Some, None, map, find}
-use Rattle.std.specs.List.{range_with_len}
-use Rattle.std.specs.Option.{option_map}
-use Rattle.std.specs.Array.{IsMapOf}
-use Rattle.std.specs.Fn.{Mut, Called}
-use Rattle.std.proofs.lemmas.List.{same_lists, length-map, get_or-map}
-use borrow.Author.Tests.{lt-ltb, le-ltb}
+use Prim.Native.Nat.{ℕ, zero, suc, ◌+◌}
 use mathlib.Core.Path.{◌≡◌, refl, sym, ◌∙◌}
 use mathlib.Core.Bool.{Bool, true, false}
 use mathlib.Core.List.{List, [], ◌∷◌}
 use native.Mathlib.Omega.{arith}
 use lib.ListN.{length}
 use lib.Dec.{ltb}
+use borrow.Author.Tests.{lt-ltb, le-ltb}
+use Rattle.std.specs.Prelude.{Option, Some, None, map, find}
+use Rattle.std.specs.List.{range_with_len}
+use Rattle.std.specs.Option.{option_map}
+use Rattle.std.specs.Array.{IsMapOf}
+use Rattle.std.specs.Fn.{Mut, Called}
+use Rattle.std.proofs.lemmas.List.{same_lists, length-map, get_or-map}
 use Rattle.fields.specs.Lists.{pick, seek}
-use Rattle.rules.specs.Minutes.{records_among}
 use Rattle.rules.specs.Block.{slot_count, slot_numbered}
 
 -- what `find` gives over the slots' numbers
@@ -47,11 +46,3 @@ made-map (x ∷ xs) {ys} k n long made same =
     (λ i d l.
     let at = made.at i x d (omega (arith, made.long)) in
     same at.0 at.1 _ _ at.2 ∙ sym (get_or-map k (x ∷ xs) i x d (omega (arith, made.long))))
-
--- the slots that are marked are those that pass the test
-pub records-same : (b : List ℕ) (p q : ℕ → Bool) (i n : ℕ) → ((j : ℕ) → i ≤ j → j < i + n → p j ≡ q j)
-    → records_among b p i n ≡ records_among b q i n
-unfolding records_among
-records-same b p q i zero h = refl
-records-same b p q i (suc n) h =
-    rw (h i (omega arith) (omega arith), records-same b p q (i + 1) n (λ j x y. h j (omega arith) (omega arith)))

@@ -1,27 +1,20 @@
 -- The warnings from what the code finds. Assumes nothing.
 use Prim.Native.Nat.{ℕ}
-use mathlib.Core.Path.{◌≡◌, ap, ◌∙◌}
-use mathlib.Core.Bool.{false}
+use mathlib.Core.Path.{◌≡◌, refl, ap}
 use mathlib.Core.List.{List}
 use native.Mathlib.Omega.{arith}
-use native.Mathlib.Nat.{zero-add}
-use lib.ListN.{get_or}
 use Rattle.fields.specs.Lists.{pick, series}
-use Rattle.fields.proofs.Tests.{series-at}
 use Rattle.report.specs.Report.{head_of}
 use Rattle.rules.specs.Block.{slot_at, used}
 use Rattle.rules.specs.Questions.{leaves}
-use Rattle.rules.specs.Minutes.{block_records}
+use Rattle.rules.specs.Minutes.{block_records, records_among}
 use Rattle.rules.specs.After.{block_after, some_slot, warns_left, warnings}
 use Rattle.levels.specs.Counted.{counted_records}
 use Rattle.judge.specs.Warned.{warnings_on}
-use Rattle.judge.proofs.Joins.{records-same}
 
 pub block-counted : (b : List ℕ) → counted_records b (series (λ i. used (slot_at b i)) 0 8) ≡ block_records b
-unfolding block_records
-block-counted b =
-    records-same b (λ i. get_or (series (λ i. used (slot_at b i)) 0 8) i false) (λ i. used (slot_at b i)) 0 8
-    (λ j x y. series-at (λ i. used (slot_at b i)) 0 8 j false (omega arith) ∙ ap (λ (k : ℕ). used (slot_at b k)) (zero-add j))
+unfolding block_records records_among series
+block-counted b = refl
 
 -- they are the warnings of the paper
 pub warnings-same : (b s : List ℕ) → warnings_on (block_after b s) (head_of s) (some_slot (leaves b s)) ≡ warnings b s
