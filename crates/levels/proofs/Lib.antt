@@ -1,7 +1,6 @@
 pub mod Spans
 pub mod Parts
 pub mod Ranges
-pub mod Made
 pub mod EachLane
 pub mod Gathered
 pub mod Bounds
