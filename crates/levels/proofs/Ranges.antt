@@ -1,8 +1,8 @@
 -- What tests of the numbers from i on, one after the other, answer as tests over a series. Assumes nothing.
 use Prim.Native.Nat.{ℕ, zero, suc, ◌+◌}
 use mathlib.Core.Path.{◌≡◌, refl, ap, sym, ◌∙◌}
-use mathlib.Core.Bool.{Bool, true, false, not, ◌&&◌, ◌||◌, and_assoc, and-true}
-use Rattle.std.specs.List.{fold, list_all, list_any, range_with_len}
+use mathlib.Core.Bool.{Bool, ◌&&◌, and_assoc, and-true}
+use Rattle.std.specs.List.{fold, list_all, range_with_len}
 use Rattle.fields.specs.Lists.{all, series}
 
 module _ {A : Type 0} (test : A → Bool) (f : ℕ → A) where
@@ -16,12 +16,3 @@ module _ (test : ℕ → Bool) where
   unfolding all series
   range-all i zero = refl
   range-all i (suc n) = ap (λ (t : Bool). test i && t) (range-all (i + 1) n)
-
-  or-not : (a x : Bool) → (a || not x) ≡ not (not a && x)
-  or-not true x = refl
-  or-not false x = refl
-
-  pub range-any : (i n : ℕ) → list_any test (range_with_len i n) ≡ not (all (λ j. not (test j)) (series (λ j. j) i n))
-  unfolding all series
-  range-any i zero = refl
-  range-any i (suc n) = ap (λ (t : Bool). test i || t) (range-any (i + 1) n) ∙ or-not (test i) _

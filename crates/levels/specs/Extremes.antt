@@ -1,7 +1,7 @@
 -- The lowest and the highest power of a type's lanes in a period: where these fit, every minute does.
 use Rattle.std.specs.Prelude.{ℕ, ◌≤◌, ◌<◌, ◌≡◌, Bool, false, not, ◌&&◌, ◌||◌, List, eqb, get_or, min, max, Option, None, Some, option_map, ◌⊎◌}
 use Rattle.std.specs.Option.{IfSome}
-use Rattle.fields.specs.Lists.{all, series}
+use Rattle.fields.specs.Lists.{pick, all, series}
 use Rattle.quantities.specs.declared.Kilowatt.{Kilowatt}
 use Rattle.quantities.specs.declared.Minute.{Minute}
 use Rattle.quantities.specs.declared.Period.{Period}
@@ -9,6 +9,7 @@ use Rattle.rules.specs.Codes.{positive_derating, negative_derating, forced_work}
 use Rattle.rules.specs.Block.{slot_count}
 use Rattle.rules.specs.Questions.{record_of, record_at}
 use Rattle.rules.specs.Minutes.{fits_beside}
+use Rattle.levels.specs.declared.CountedTypes.{CountedTypes}
 use Rattle.levels.specs.declared.Extremes.{Extremes}
 use Rattle.levels.specs.declared.Lane.{Lane}
 use Rattle.levels.specs.declared.Lanes.{Lanes}
@@ -23,14 +24,28 @@ type_at b counted type i = get_or counted i false && eqb (record_at b i).record_
 unfoldable pub some_of_type : List ℕ → List Bool → ℕ → Bool
 some_of_type b counted type = not (all (λ i. not (type_at b counted type i)) (series (λ i. i) 0 slot_count))
 
--- a record of a type counts, the report's among them
-abbrev pub type_counts : List ℕ → List ℕ → Swept → ℕ → Bool
-type_counts b s swept type = swept.with_report && eqb (record_of s).record_type.0 type || some_of_type b swept.counted type
+abbrev pub with_type : CountedTypes → ℕ → CountedTypes
+with_type types type = record {
+  forced = types.forced || eqb type forced_work;
+  positive = types.positive || eqb type positive_derating;
+  negative = types.negative || eqb type negative_derating;
+}
+
+abbrev pub counted_types : List ℕ → List Bool → CountedTypes
+counted_types b counted = record {
+  forced = some_of_type b counted forced_work;
+  positive = some_of_type b counted positive_derating;
+  negative = some_of_type b counted negative_derating;
+}
+
+-- the report's record among them, where it counts
+unfoldable pub swept_types : List ℕ → List ℕ → Swept → CountedTypes
+swept_types b s swept =
+    pick swept.with_report (with_type (counted_types b swept.counted) (record_of s).record_type.0) (counted_types b swept.counted)
 
 -- forced work and a derating count
-unfoldable pub types_meet : List ℕ → List ℕ → Swept → Bool
-types_meet b s swept =
-    type_counts b s swept forced_work && (type_counts b s swept positive_derating || type_counts b s swept negative_derating)
+abbrev pub types_meet : CountedTypes → Bool
+types_meet types = types.forced && (types.positive || types.negative)
 
 -- lane i, or none where it has no level of the type in any minute of the period
 abbrev pub LaneWithin : Lanes → ℕ → ℕ → Period → Option Lane → Type 0

@@ -4,8 +4,8 @@ use Rattle.levels.proofs.Bounds.{fits-unforced, fits-extremes}
 use Rattle.levels.proofs.Asked.{asked-enough}
 use Rattle.levels.proofs.fits.Goals as goal
 
-pub returns-then-not-types_meet : goal.returns-then-not-types_meet
-returns-then-not-types_meet c = fits-apart _ _ _ _ _ _ _ _ c.types_meet.ensures c.if-not-types_meet.true
+pub returns-then-not-meet : goal.returns-then-not-meet
+returns-then-not-meet c = fits-apart _ _ _ _ _ _ _ _ c.swept_types.ensures c.meet.ensures c.if-not-meet.true
 
 pub returns-in_default : goal.returns-in_default
 returns-in_default c =

@@ -1,10 +1,12 @@
-use Rattle.std.proofs.Common.{rules}
-use Rattle.levels.specs.Lanes.{lane_at}
 use Rattle.levels.proofs.Counted.{records-levels}
-use Rattle.fields.proofs.Made.{made-series}
+use Rattle.levels.proofs.Choosing.{filled-start, filled_next, filled-end}
 use Rattle.levels.proofs.lanes_of.Goals as goal
 
+pub loop-i-init : goal.loop-i-init
+loop-i-init c = filled-start _
+
+pub loop-i-preserved : goal.loop-i-preserved
+loop-i-preserved c = filled_next _ c.loop-i.invariant c.loop-i-test.true c.lane_at-lane.ensures
+
 pub returns : goal.returns
-returns c =
-    records-levels _ c.args.swept c.args.direction.0
-    (made-series _ (lane_at c.args.b.now c.args.report.now c.args.swept c.args.direction.0) 9 (λ i y q low called. (search rules, search rules)) c.from_fn-each.ensures.items)
+returns c = records-levels _ c.args.swept c.args.direction.0 (filled-end _ c.loop-i.invariant c.loop-i-test.false)
