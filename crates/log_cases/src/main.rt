@@ -43,7 +43,12 @@ fn fault(rt: &impl Print, roster: &[u8]) -> io::Result<()> {
 fn line(rt: &impl Print, words: &str, report: &[u8]) -> io::Result<()> {
     let mut register = fresh_register();
     let mut text = [0u8; 128];
-    let logged = log_lines::log_report::<Plain>(&mut register, report, log_lines::at_start(), &mut text);
+    let logged = log_lines::log_report::<Plain>(
+        &mut register,
+        report,
+        log_lines::at_start(),
+        &mut text,
+    );
     let ends = if logged.ends { " (ends the run)" } else { "" };
     print!(rt; "{words}{ends}: ")?;
     rt.write_all(&text[..logged.length])
@@ -121,7 +126,12 @@ fn thousands(rt: &impl Print) -> io::Result<()> {
     let mut text = [0u8; 128];
     let mut progress = log_lines::at_start();
     for _ in 0..4999u32 {
-        progress = log_lines::log_report::<Plain>(&mut register, report, progress, &mut text).progress;
+        progress = log_lines::log_report::<Plain>(
+            &mut register,
+            report,
+            progress,
+            &mut text,
+        ).progress;
     }
     let last = log_lines::log_report::<Plain>(&mut register, report, progress, &mut text);
     rt.write_all(&text[..last.length])?;
