@@ -27,7 +27,7 @@ fn print_month_bounds(rt: &impl Print) -> io::Result<()> {
     print_line(rt, 26298719)
 }
 
-// Each minute is computed and has to fit, of which `step_by` would ask nothing.
+// Each minute is computed and has to fit; `step_by` would ask nothing, and the edit `wide_step` would pass.
 fn print_between(rt: &impl Print) -> io::Result<()> {
     for step in 0..338 {
         print_line(rt, 12345 + step * 77777)?;

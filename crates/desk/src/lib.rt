@@ -19,6 +19,7 @@ use quantities::Minute;
 use report::RemarkPlace;
 use rules::{Answer, Refusal};
 
+// As `records::must`, but of questions that nothing skips.
 #[tactic(auto, unfolding(fields::specs::Lists::pick))]
 fn ask(number: u8, yes: bool) -> Result<(), Refusal>
     ensures { result ≡ pick yes (Ok tt) (Err (no_to number)) }
@@ -64,7 +65,7 @@ fn is_addressed(register: &[u8], report: &[u8]) -> bool
     }
 }
 
-// The answer to a report: the sum of an accepted report's warnings, or the first question that says no, of 1 to 19. A refusal leaves
+// The answer to a report: the sum of an accepted report's warnings, as the papers add them up, or the first question that says no, of 1 to 19. A refusal leaves
 // every byte.
 pub fn answer_report(register: &mut [u8], report: &[u8]) -> Result<u8, Refusal>
     ensures value { told result ≡ (answer_to register.old report.now).answer }
@@ -80,7 +81,8 @@ pub fn answer_report(register: &mut [u8], report: &[u8]) -> Result<u8, Refusal>
     judge_block(&mut register[a..e], report)
 }
 
-// An answer as the paper has it: 0 with the sum of the warnings, or a refusal's number and part.
+// An answer as the paper has it: 0 with the sum of the warnings, or a refusal's number and part. No From: `told` is the definition's
+// name, which contracts cite.
 pub fn told(outcome: Result<u8, Refusal>) -> Answer
     ensures { result ≡ told outcome }
 {

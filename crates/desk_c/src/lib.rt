@@ -1,4 +1,5 @@
 // The C interface: each function of the desk that C calls, under its own name and with its own clauses. include/desk.h declares them.
+// `desk` has the same five, since a crate is a library or a static library, and what is proved of them is proved there.
 #![tactic(auto)]
 
 ghost use Rattle.std.specs.Prelude.{◌≡◌};

@@ -38,7 +38,8 @@ pub struct Progress {
     pub totals: Totals,
 }
 
-// The progress after a report, the length of its line, and whether it was accepted, and ends the run.
+// The progress after a report, the length of its line, and whether it was accepted, and ends the run: callers ask the two apart, and join
+// each over many reports.
 #[derive(Clone, Copy)]
 pub struct Logged {
     pub progress: Progress,
@@ -54,6 +55,7 @@ pub struct Text<'a> {
     end: usize,
 }
 
+// `calendar` has the same of a u32: called here it would need `n % 10` made narrower, and a law that the digit is the same.
 fn digit(n: u64) -> u8
     ensures { result ≡ digit_of n }
 {

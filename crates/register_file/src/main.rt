@@ -50,6 +50,7 @@ fn run(rt: &HostRuntime) -> Result<(), Said> {
     }
 }
 
+// `rt` is what a function may do, so each is told it.
 fn say_use<R: Eprint>(rt: &R) -> Said {
     let line = "register_file: it takes set-up or answer, and the path of a register";
     say(rt, line)
@@ -98,6 +99,7 @@ fn answer<R: Files + Print + Eprint + Alloc, I: Read>(
     answer_stream(rt, reader, file, &mut register[..size])
 }
 
+// One line over `or_said`, in this program's words.
 fn print<R: Print + Eprint + Alloc>(rt: &R, text: &[u8]) -> Result<(), Said> {
     let done = rt.write_all(text);
     or_said(rt, "register_file: standard output can't be written", done)

@@ -4,7 +4,7 @@ ghost use Rattle.std.specs.Prelude.{◌≡◌, ◌+◌, ◌≤◌, length};
 use std::io::{Eprint, Read};
 use streams::{Said, or_said};
 
-// The bytes from `from` to `to`, and whether the input ends after them.
+// The bytes from `from` to `to`, and whether the input ends after them. There is no heap, so no VecDeque.
 #[derive(Drop)]
 pub(crate) struct Window {
     room: [u8; 65536],

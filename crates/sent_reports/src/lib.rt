@@ -30,6 +30,7 @@ pub struct Step {
     pub power: u32,
 }
 
+// Numbers as the papers write them, D+60 and 20,000, and no Minutes and Kilowatts: `compose` makes bytes of them.
 // A creation with direction 1 and ordinal 1. Levelled types have one part, or two where the power changes at a step.
 #[derive(Clone, Copy)]
 pub struct Sent {

@@ -10,7 +10,8 @@ use std::env::{Env, FillError};
 use std::io::{Eprint, Print, Read};
 use streams::Said;
 
-// How many entries begin the input, their length, and how many bytes came after them.
+// How many entries begin the input, their length, and how many bytes came after them. There is no heap: what is read lies in rooms of the
+// most bytes it can have, and how much of a room is filled stands beside it.
 #[derive(Clone, Copy)]
 struct Start {
     entries: usize,
@@ -68,6 +69,7 @@ fn read<R: Eprint + Alloc, I: Read>(rt: &R, reader: &mut I, bytes: &mut [u8]) ->
     streams::or_said(rt, "shift_log: standard input can't be read", done)
 }
 
+// One line over `or_said`, in this program's words.
 fn print<R: Print + Eprint + Alloc>(rt: &R, text: &[u8]) -> Result<(), Said> {
     let done = rt.write_all(text);
     streams::or_said(rt, "shift_log: standard output can't be written", done)

@@ -34,7 +34,8 @@ pub fn read_once<R: Read>(reader: &mut R, bytes: &mut [u8]) -> io::Result<Option
     }
 }
 
-// Reads until the bytes are full, the input ends or a read fails.
+// Reads until the bytes are full, the input ends or a read fails. How many came is told as std's `read` tells it, since callers go on in the
+// same bytes; `read_exact` would not tell how many came before an end.
 pub fn read_full<R: Read>(reader: &mut R, bytes: &mut [u8]) -> io::Result<usize>
     ensures { IfOk result (λ read. read ≤ length bytes.old) }
 {

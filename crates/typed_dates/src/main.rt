@@ -7,7 +7,8 @@ use quantities::Minute;
 use std::io;
 use std::io::{Print, Read};
 
-// What was read of a line: its first sixteen bytes, its length, counted to 17, and its number, if it is one.
+// What was read of a line: its first sixteen bytes, its length, counted to 17, and its number, if it is one. There is no heap, so of a longer
+// line nothing is kept but that it is longer.
 #[derive(Clone, Copy)]
 struct Line {
     text: [u8; 16],
@@ -77,7 +78,7 @@ impl Line {
         self.length = self.length.saturating_add(1).min(17);
     }
 
-    // The number with one more digit, where both are there. One too large for any minute stays so.
+    // The number with one more digit, where both are there. One too large for any minute stays so. `parse` takes a sign and zeros in front.
     fn number_with(&self, c: u8) -> Option<u32> {
         if !c.is_ascii_digit() {
             return None;
