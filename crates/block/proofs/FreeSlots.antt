@@ -1,4 +1,4 @@
--- Zeros read as one number of all their bits, and free slots as one stretch of zeros. Assumes nothing.
+-- Zeros read as one number of all their bits, free slots as one stretch of zeros, and slots that are apart. Assumes nothing.
 use Prim.Native.Nat.{ℕ, zero, suc, ◌+◌, ◌≤◌, ◌<◌}
 use mathlib.Core.Path.{◌≡◌, refl, ap, sym, ◌∙◌}
 use mathlib.Core.Bool.{Bool, true, false, not, ◌&&◌, ◌||◌, and_assoc, and-true}

@@ -2,6 +2,8 @@
 #![tactic(auto)]
 
 ghost use Rattle.std.specs.Prelude.{◌≡◌, Bool, false, not, ◌&&◌, ◌||◌, eqb, ltb, leb, List, ℕ, ◌+◌, ◌*◌, ◌≤◌, ◌<◌, length, drop, get_or, []};
+ghost use Rattle.std.specs.List.{list_all, All};
+ghost use Rattle.std.specs.Option.{MatchOption};
 ghost use Rattle.std.proofs.Common.{lit≤};
 ghost use Rattle.fields.specs.Fields.{u32_at};
 ghost use Rattle.fields.specs.Lists.{all, series, part, put};
@@ -9,8 +11,8 @@ ghost use Rattle.quantities.specs.Quantities.{minute_at, kilowatt_at};
 ghost use Rattle.rules.specs.declared.Record.{Record};
 ghost use Rattle.rules.specs.declared.UnitHead.{UnitHead};
 ghost use Rattle.report.specs.Report.{most_parts};
-ghost use Rattle.rules.specs.Roster.{most_units, entry_size, powers_at, entry_of, entry_good, piece, pieces_pass, roster_good};
-ghost use Rattle.rules.specs.Block.{pairs_start, pair_start, slot_size, slot_count, block_size, zeros, zeros_at, unit_head, HeadFits, slot_at, used, record_in, stored_count};
+ghost use Rattle.rules.specs.Roster.{most_units, powers_at, entry_of, entry_good, pieces_pass, roster_good};
+ghost use Rattle.rules.specs.Block.{pair_start, block_size, zeros, zeros_at, unit_head, HeadFits, slot_at, used, record_in, stored_count};
 ghost use Rattle.rules.specs.Codes.{between, stop, off_grid};
 ghost use Rattle.rules.specs.Records.{begun};
 ghost use Rattle.rules.specs.Whole.{records_apart, slot_whole, slots_apart, block_whole, register_whole};
@@ -18,9 +20,7 @@ ghost use Rattle.rules.specs.After.{put_row};
 ghost use Rattle.block.specs.Codec.{put_unit, put_last_stamp, put_powers, put_unit_head, codes_bytes, times_bytes, put_record, pair_bytes_of};
 ghost use Rattle.block.specs.Codec.{head_fields_end, slot_fields_end, RecordFits, HoldsRecord, PairFits};
 ghost use Rattle.block.specs.declared.Pair.{Pair};
-ghost use Rattle.block.specs.Slot.{stretch_size, pair_at, pairs_of, ends_rise, pairs_rise, holds_alone, slots_of, each_apart, head_whole, FreeFrom};
-ghost use Rattle.std.specs.List.{list_all, All};
-ghost use Rattle.std.specs.Option.{MatchOption};
+ghost use Rattle.block.specs.Slot.{pair_at, pairs_of, ends_rise, pairs_rise, holds_alone, slots_of, each_apart, head_whole, FreeFrom};
 
 use fields::{bytes_at, chunk_at, put_bytes, put_u8, put_u16, u8_at, u16_at};
 use quantities::{Kilowatt, Minute, Period, kilowatt_at, minute_at, put_kilowatt, put_minute};
