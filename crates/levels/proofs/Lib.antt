@@ -1,6 +1,5 @@
 pub mod Spans
 pub mod Parts
-pub mod Ranges
 pub mod EachLane
 pub mod Gathered
 pub mod Bounds

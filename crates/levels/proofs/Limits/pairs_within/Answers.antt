@@ -1,19 +1,14 @@
-use Rattle.std.proofs.Common.{rules, ◌∙◌, tests, Bool, true}
-use mathlib.Core.Bool.{◌&&◌}
-use Rattle.std.proofs.lemmas.Iterator.{YieldsList-from_range}
-use Rattle.std.proofs.lemmas.Iterator.Consumers.{fold_from_yields_List}
 use native.Mathlib.Omega.{arith}
-use Rattle.block.specs.declared.Pair.{Pair}
-use Rattle.block.specs.Slot.{pair_at}
-use Rattle.rules.specs.Block.{stored_count}
-use Rattle.levels.specs.Within.{power_within, pairs_within}
-use Rattle.levels.proofs.Ranges.{fold-all}
+use Rattle.fields.proofs.Tests.{tested-none}
+use Rattle.levels.proofs.Within.{pair-tested, pairs-tested}
 use Rattle.levels.proofs.Limits.pairs_within.Goals as goal
 
+pub loop-j-init : goal.loop-j-init
+loop-j-init c = tested-none
+
+pub loop-j-preserved : goal.loop-j-preserved
+loop-j-preserved c = pair-tested _ _ c.loop-j.invariant (omega arith) c.pair_at-pair.ensures
+    c.power_within-ok.ensures
+
 pub returns : goal.returns
-unfolding pairs_within
-returns c =
-    let n = stored_count c.args.z.now in
-    fold_from_yields_List _ (λ (ok : Bool) j. ok && power_within c.args.self (pair_at c.args.z.now j).power.0) true c.fold.result c.fold.ensures.ran
-    (YieldsList-from_range 0 n n (cc) (omega arith)) (λ a x b q k. search (rules, tests))
-    ∙ fold-all (λ (p : Pair). power_within c.args.self p.power.0) (pair_at c.args.z.now) true 0 n
+returns c = pairs-tested _ _ c.stored_count-count.ensures c.loop-j.invariant c.loop-j-test.false
