@@ -16,7 +16,9 @@ pub(crate) struct Window {
 }
 
 impl Window {
-    pub(crate) fn new() -> Window {
+    pub(crate) fn new() -> Window
+        ensures { (result.from ≡ 0) × (result.to ≡ 0) }
+    {
         Window {
             room: [0; 65536],
             from: 0,
@@ -34,6 +36,7 @@ impl Window {
     // The first of them are judged.
     pub(crate) fn take(&mut self, judged: usize)
         requires { self.old.from + judged ≤ self.old.to }
+        ensures { (self.new.from ≡ self.old.from + judged) × (self.new.to ≡ self.old.to) }
     {
         self.from += judged;
     }

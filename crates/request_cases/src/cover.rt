@@ -2,8 +2,7 @@
 ghost use Rattle.std.specs.Prelude.{◌≡◌, ◌+◌, ◌*◌};
 
 use crate::lines::print_line;
-use report::{Operation, RecordType};
-use report::{PART_SIZE, PARTS_START};
+use report::{Operation, PART_SIZE, PARTS_START, RecordType};
 use sent_reports::{D, derating_over, fresh_register};
 use std::{fmt, io};
 
