@@ -557,6 +557,7 @@ impl Limits {
         records::choose(self.kind == Kind::Z1, z1, others)
     }
 
+    #[tactic(auto, unfolding(rules::specs::Minutes::levels_fit))]
     fn levels_fit(self, l: Levels) -> bool
         ensures { result ≡ levels_fit self.kind.0 self.range l }
     {
@@ -584,12 +585,14 @@ impl Limits {
         ((self.kind == Kind::W1) | (self.kind == Kind::M1)) & (level < self.range.min)
     }
 
+    #[tactic(auto, unfolding(rules::specs::Minutes::above_max))]
     fn above_max(self, l: Levels) -> bool
         ensures { result ≡ above_max self.kind.0 self.range l }
     {
         l.positive.is_none() & l.forced.is_some_and(|level| self.is_high(level))
     }
 
+    #[tactic(auto, unfolding(rules::specs::Minutes::below_min))]
     fn below_min(self, l: Levels) -> bool
         ensures { result ≡ below_min self.kind.0 self.range l }
     {
@@ -758,8 +761,7 @@ impl CountedTypes {
     fn meet(self) -> bool
         ensures { result ≡ types_meet self }
     {
-        let forced = self.forced;
-        forced & (self.positive | self.negative)
+        self.forced & (self.positive | self.negative)
     }
 }
 
