@@ -304,7 +304,8 @@ fn slot_lane(b: &[u8], i: u8, direction: Direction) -> Option<Lane>
     lane_of(block::record_in(z), block::stored_count(z), direction)
 }
 
-// The lanes of records that count.
+// Lane i, if its record counts. Block, report and what counts of them are what `fits` is called with; a struct of them would serve only the
+// functions from here to `lanes_of` and `swept_types`.
 fn lane_at(b: &[u8], report: &[u8], swept: Swept, direction: Direction, i: u8) -> Option<Lane>
     requires { i < lane_count }
     ensures { result ≡ lane_at b.now report.now swept direction.0 i }
@@ -765,7 +766,8 @@ impl CountedTypes {
     }
 }
 
-// Which types the slots that count have. In one walk: a question for each type takes 28 ns in place of 10 where no slot counts.
+// Which types the slots that count have. In one walk: a question for each type takes 28 ns in place of 10 where no slot counts. By number:
+// a slot is read by it.
 fn counted_types(b: &[u8], counted: [bool; 8]) -> CountedTypes
     ensures { result ≡ counted_types b.now counted }
 {
