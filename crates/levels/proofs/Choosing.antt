@@ -105,9 +105,6 @@ module _ (ls : Lanes) where
       pub later : m < until
       pub rest : (k : ℕ) → m ≤ k → k < until → level 0 k ≡ level i k
 
-    pub looked-none : {m far : ℕ} → m < far → Looked 0 m far
-    looked-none o = record { most = omega arith; later = o; rest = λ k a b. refl }
-
     module _ {i m until : ℕ} (h : Looked i m until) (l : i < lane_count) where
       pub looked-skipped : lane_in ls i ≡ None → Looked (i + 1) m until
       looked-skipped q = record {

@@ -17,9 +17,6 @@ use Rattle.levels.specs.Lanes.{lane_in, lane_level}
 
 -- a lane of another type, or one that shares no minute with the period
 module _ (ls : Lanes) (i type : ℕ) (period : Period) where
-  pub no-lane : lane_in ls i ≡ None → LaneWithin ls i type period None
-  no-lane q k x y = rw q
-
   pub lane-apart : {lane : Lane} {t : Bool} → lane_in ls i ≡ Some lane → t ≡ overlap lane.period period
       → (eqb lane.record_type.0 type && t) ≡ false → LaneWithin ls i type period None
   unfolding lane_level

@@ -6,10 +6,8 @@ use native.Mathlib.Omega.{arith}
 use Rattle.std.proofs.Common.{rules, min, max, is_lt, is_le, nat_cmp}
 use Rattle.std.specs.Ordering.{ord_min, ord_max}
 use Rattle.fields.specs.Lists.{all, series}
-use Rattle.quantities.specs.declared.Kilowatt.{Kilowatt}
 use Rattle.quantities.specs.declared.Minute.{Minute}
 use Rattle.quantities.specs.contracts.MinuteOrd.TheImpl as minutes
-use Rattle.quantities.specs.contracts.KilowattOrd.TheImpl as powers
 use Rattle.rules.specs.Minutes.{every_minute, some_minute}
 use Rattle.levels.specs.Stays.{Holds}
 
@@ -36,12 +34,6 @@ soonest-of a b c d p q e =
 
 pub later : {r : Minute} (a b : Minute) → r ≡ ord_max minutes.cmp-value.it a b → r.0 ≡ max a.0 b.0
 later a b e = search rules
-
-pub lower : {r : Kilowatt} (a b : Kilowatt) → r ≡ ord_min powers.cmp-value.it a b → r.0 ≡ min a.0 b.0
-lower a b e = search rules
-
-pub higher : {r : Kilowatt} (a b : Kilowatt) → r ≡ ord_max powers.cmp-value.it a b → r.0 ≡ max a.0 b.0
-higher a b e = search rules
 
 module _ {A : Type 0} {f : ℕ → A} {m : ℕ} {v : A} {n : ℕ} (h : Holds f m v n) where
   pub holds-less : {p : ℕ} → m < p → p ≤ n → Holds f m v p

@@ -186,10 +186,6 @@ module _ (cs : Choices) (u : Limits) where
 
 -- what the lanes' levels are up to the soonest change of a choice
 module _ (ls : Lanes) {m : ℕ} where
-  pub chosen-ready : {f p n : Choice} → Chosen ls 4 m f → Chosen ls 2 m p → Chosen ls 3 m n
-      → Ready (record { forced = f; positive = p; negative = n }) m
-  chosen-ready f p n = record { forced = f.stands; positive = p.stands; negative = n.stands }
-
   chosen-lanes : {f p n : Choice} (end : Minute) → Chosen ls 4 m f → Chosen ls 2 m p → Chosen ls 3 m n
       → (k : ℕ) → m ≤ k → k < soonest (record { forced = f; positive = p; negative = n }) end
       → lane_levels ls k ≡ chosen_levels (record { forced = f; positive = p; negative = n }) k

@@ -304,7 +304,8 @@ fn slot_lane(b: &[u8], i: u8, direction: Direction) -> Option<Lane>
     lane_of(block::record_in(z), block::stored_count(z), direction)
 }
 
-// The lanes of records that count.
+// Lane i, if its record counts. Block, report and what counts of them are what `fits` is called with; a struct of them would serve only the
+// functions from here to `lanes_of` and `swept_types`.
 fn lane_at(b: &[u8], report: &[u8], swept: Swept, direction: Direction, i: u8) -> Option<Lane>
     requires { i < lane_count }
     ensures { result ≡ lane_at b.now report.now swept direction.0 i }
@@ -557,6 +558,7 @@ impl Limits {
         records::choose(self.kind == Kind::Z1, z1, others)
     }
 
+    #[tactic(auto, unfolding(rules::specs::Minutes::levels_fit))]
     fn levels_fit(self, l: Levels) -> bool
         ensures { result ≡ levels_fit self.kind.0 self.range l }
     {
@@ -584,12 +586,14 @@ impl Limits {
         ((self.kind == Kind::W1) | (self.kind == Kind::M1)) & (level < self.range.min)
     }
 
+    #[tactic(auto, unfolding(rules::specs::Minutes::above_max))]
     fn above_max(self, l: Levels) -> bool
         ensures { result ≡ above_max self.kind.0 self.range l }
     {
         l.positive.is_none() & l.forced.is_some_and(|level| self.is_high(level))
     }
 
+    #[tactic(auto, unfolding(rules::specs::Minutes::below_min))]
     fn below_min(self, l: Levels) -> bool
         ensures { result ≡ below_min self.kind.0 self.range l }
     {
@@ -758,12 +762,12 @@ impl CountedTypes {
     fn meet(self) -> bool
         ensures { result ≡ types_meet self }
     {
-        let forced = self.forced;
-        forced & (self.positive | self.negative)
+        self.forced & (self.positive | self.negative)
     }
 }
 
-// Which types the slots that count have. In one walk: a question for each type takes 28 ns in place of 10 where no slot counts.
+// Which types the slots that count have. In one walk: a question for each type takes 28 ns in place of 10 where no slot counts. By number:
+// a slot is read by it.
 fn counted_types(b: &[u8], counted: [bool; 8]) -> CountedTypes
     ensures { result ≡ counted_types b.now counted }
 {
