@@ -33,4 +33,4 @@ abbrev pub remark_line : ℕ → List ℕ → Answer → List ℕ
 remark_line line s a = line_text line s a ++ remark_column s ++ line_feed
 
 abbrev pub remarks_header : List ℕ
-remarks_header = header_text ++ remark_title ++ line_feed
+remarks_header = header_text ++ ascii " | remark" ++ line_feed
