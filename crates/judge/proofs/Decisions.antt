@@ -25,7 +25,7 @@ use Rattle.rules.specs.After.{rewrites, slot_written, cleared, some_slot}
 use Rattle.rules.specs.Judge.{must, validation_number, held_number, limit_number, refusal_number}
 use Rattle.rules.proofs.Slots.{numbered}
 use Rattle.levels.specs.Counted.{swept_records}
-use Rattle.levels.proofs.Ranges.{range-any}
+use Rattle.judge.proofs.Ranges.{range-any}
 use Rattle.validation.proofs.InOrder.{then_assoc, link, stage}
 use Rattle.validation.specs.declared.Validated.{Validated}
 use Rattle.validation.specs.FirstNo.{◌then◌, outcome}

@@ -1,3 +1,4 @@
 pub mod Decisions
 pub mod Joins
+pub mod Ranges
 pub mod Warnings

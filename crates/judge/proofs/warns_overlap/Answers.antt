@@ -2,7 +2,7 @@ use Rattle.std.proofs.Common.{rules, tests, arith, ◌∙◌}
 use Rattle.std.proofs.lemmas.Iterator.{YieldsList-from_range}
 use Rattle.std.proofs.lemmas.Iterator.Search.{any_from_yields_List}
 use Rattle.rules.specs.After.{warns_overlap, some_slot}
-use Rattle.levels.proofs.Ranges.{range-any}
+use Rattle.judge.proofs.Ranges.{range-any}
 use Rattle.judge.specs.Warned.{overlap_at}
 use Rattle.judge.proofs.warns_overlap.Goals as goal
 
