@@ -37,10 +37,10 @@ def functions(lines):
         if line.rstrip().endswith('{'):
             open_at = at + line.rindex('{')
         else:
-            stop = rest.find('\n{')
-            if stop < 0 or re.search(r'[;}] *;?\n *(\n|fn|\})', rest[:stop]) or line.rstrip().endswith(';'):
+            start = re.search(r'\n *\{\n', rest)
+            if not start or re.search(r'[;}] *;?\n *(\n|fn|\})', rest[:start.start()]) or line.rstrip().endswith(';'):
                 continue
-            open_at = at + stop + 1
+            open_at = at + start.end() - 2
         end, depth = open_at + 1, 1
         while depth:
             depth += {'{': 1, '}': -1}.get(text[end], 0)

@@ -14,7 +14,8 @@ use quantities::Minute;
 use report::{Head, MOST_PARTS};
 use rules::Row;
 
-// The slots that are cleared, the slot that is written, and whether the row changes.
+// The slots that are cleared, the slot that is written, and whether the row changes. As `judge::Decision` has them: this crate knows nothing
+// of the questions, nor `judge` of what writes.
 #[derive(Clone, Copy)]
 pub struct Plan {
     pub cleared: [bool; 8],
@@ -54,6 +55,7 @@ impl Accepted<'_> {
     }
 
     #[tactic(auto, unfolding(crate::specs::Plan::slot_made, fields::specs::Lists::pick))]
+    // Two flags, as the plan has them: a slot can be both, and is then written.
     fn set_slot(&self, z: &mut [u8], written: bool, cleared: bool)
         requires { length z.old ≡ slot_size }
         ensures { z.new ≡ slot_made self.now.report.now written cleared z.old }
@@ -88,6 +90,7 @@ impl Accepted<'_> {
 }
 
 #[tactic(auto, unfolding(fields::specs::Lists::pick))]
+// Flag and row apart, as `head_made` has them: the row after the step is there in either case.
 fn change_row(b: &mut [u8], changes: bool, row: Row)
     ensures { b.new ≡ pick changes (put_row b.old row) b.old }
 {

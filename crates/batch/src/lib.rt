@@ -12,7 +12,8 @@ use log_lines::{Plain, Progress};
 pub const LINE_SIZE: usize = 128;
 
 // The progress after the reports, how many bytes of the input they are and of the text their lines, whether one was accepted, and
-// whether one ends the run: either of the two can be without the other, so they are no cases of one enum.
+// whether one ends the run: either of the two can be without the other, so they are no cases of one enum. Not a `Logged`, which
+// is of one report: lengths add up here, and are numbers, since text and register are lent anew.
 #[derive(Clone, Copy)]
 pub struct Batch {
     pub progress: Progress,

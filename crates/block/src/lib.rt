@@ -49,14 +49,14 @@ pub const ENTRY_SIZE: usize = 28;
 
 pub const MOST_UNITS: usize = 64;
 
-// Where a part in a slot ends, and its power.
+// Where a part in a slot ends, and its power. `report::PartLevel` has the same of a report: a From would serve two lines.
 #[derive(Clone, Copy)]
 pub struct Pair {
     pub end: Minute,
     pub power: Kilowatt,
 }
 
-// What one pass over the pairs finds.
+// What one pass over the pairs finds; the bound stands whether they rise or not.
 #[derive(Clone, Copy)]
 pub struct EndsFound {
     pub rise: bool,
@@ -273,7 +273,7 @@ fn pairs_rise(pairs: &[[u8; PAIR_SIZE]], period: Period) -> bool
     ok & (start == period.end)
 }
 
-// The same by one pass where the powers' bound is a power, as a rule.
+// The same by `ends_rise`, whose turns are shorter, where its bound is a power, as a rule; else by a test of each power.
 fn pairs_fit(pairs: &[[u8; PAIR_SIZE]], period: Period) -> bool
     requires { (period.start.0 < 2147483648) × (period.end.0 < 2147483648) }
     ensures { result ≡ pairs_rise pairs.now period.start.0 period.end.0 }
@@ -302,7 +302,7 @@ fn times_hold(last: Minute, r: Record) -> bool
         & (!has_begun(r) | (r.period.start <= r.stamp))
 }
 
-// What question 1 asks of a record, but for its parts.
+// What question 1 asks of a record, but for its parts. Kind and last stamp are all that a slot is asked beside of its unit's head.
 #[tactic(auto, using(std::proofs::lemmas::Bool::Decides::nat_tests), unfolding(crate::specs::Slot::holds_alone, fields::specs::Lists::every, fields::specs::Lists::and_each))]
 fn holds_alone(kind: Kind, last: Minute, r: Record) -> bool
     ensures { result ≡ holds_alone kind.0 last r }

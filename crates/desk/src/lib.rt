@@ -51,7 +51,7 @@ fn judge_block(b: &mut [u8], report: &[u8]) -> Result<u8, Refusal>
     Ok(warnings)
 }
 
-// Question 3.
+// Question 3. It answers as the definition does; where the block lies is found again below, where it is lent to be changed.
 fn is_addressed(register: &[u8], report: &[u8]) -> bool
     ensures { result ≡ question3 register.now report.now }
 {
@@ -65,8 +65,8 @@ fn is_addressed(register: &[u8], report: &[u8]) -> bool
     }
 }
 
-// The answer to a report: the sum of an accepted report's warnings, as the papers add them up, or the first question that says no, of 1 to 19. A refusal leaves
-// every byte.
+// The answer to a report: the sum of an accepted report's warnings, as the papers add them up, or the first question that says no, of 1
+// to 19. A refusal leaves every byte.
 pub fn answer_report(register: &mut [u8], report: &[u8]) -> Result<u8, Refusal>
     ensures value { told result ≡ (answer_to register.old report.now).answer }
     ensures accepted { is_ok result ≡ eqb (answer_to register.old report.now).answer.number 0 }

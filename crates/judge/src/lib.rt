@@ -103,7 +103,8 @@ fn held_record(b: &[u8], slot: Option<u8>) -> Record
     block::record_in(block::slot_at(b, slot.unwrap_or(SLOT_COUNT)))
 }
 
-// Question 13.
+// Question 13. Head and held record go through five functions: a struct of both would stand in each clause, where the definitions take
+// the two.
 fn is_of_holder(h: Head, held: Record) -> bool
     ensures { result ≡ question13 h held }
 {
@@ -128,7 +129,7 @@ fn may_move(h: Head, held: Record) -> bool
         )
 }
 
-// Questions 10 to 14.
+// Questions 10 to 14. Flag and record apart: 13 and 14 are asked of a record in every case, as `held_record` says.
 #[tactic(auto, unfolding(crate::specs::Decided::holder_asked))]
 fn ask_holder(last: Minute, h: Head, is_held: bool, held: Record) -> Result<(), Refusal>
     ensures { result ≡ holder_asked last h is_held held }
@@ -396,6 +397,7 @@ fn used_slots(b: &[u8]) -> [bool; 8]
 }
 
 #[tactic(auto, unfolding(fields::specs::Lists::pick))]
+// `records::choose` of n and 0, with the bound that the sums of warnings need.
 fn worth_of(n: u8, t: bool) -> u8
     ensures { (result ≡ worth n t) × (result ≤ n) }
 {
@@ -417,7 +419,7 @@ fn minute_warnings(after: &[u8], h: Head) -> u8
     worth_of(2, g.above) + worth_of(4, g.below)
 }
 
-// The warnings of an accepted report, on the block afterwards; `left`: some record left.
+// The warnings of an accepted report, 1, 2, 4 and 8 as the papers add them up, on the block afterwards; `left`: some record left.
 #[tactic(auto, unfolding(crate::specs::Warned::warnings_on, fields::specs::Lists::pick))]
 pub fn warnings_on(after: &[u8], h: Head, left: bool) -> u8
     ensures { result ≡ warnings_on after.now h left }

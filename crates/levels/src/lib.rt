@@ -22,7 +22,7 @@ use rules::{Kind, Levels, PowerRange, Record};
 // The lanes of a sweep: the report's and one for each slot.
 pub const LANE_COUNT: u8 = SLOT_COUNT + 1;
 
-// No minute is after it.
+// No minute is after it. As an `until`: for good. No Option, since each `until` is joined with others by `min`.
 const LAST: Minute = Minute(4294967295);
 
 // A level, if there is one, and a later minute up to which it stays.
@@ -32,7 +32,8 @@ pub struct LevelSpan {
     pub until: Minute,
 }
 
-// What a sweep reads: the slots that count, and whether the reported record does.
+// What a sweep reads: the slots that count, and whether the reported record does. A flag and no Option of the report: `fits` is lent one
+// in any case, and the definitions, `swept_records` too, ask the flag.
 #[derive(Clone, Copy)]
 pub struct Swept {
     pub counted: [bool; 8],
@@ -47,7 +48,8 @@ pub struct Lane {
     pub count: u16,
 }
 
-// The lanes of one direction, those of records that count: lane 0 is the report's, lane i + 1 that of slot i.
+// The lanes of one direction, those of records that count: lane 0 is the report's, lane i + 1 that of slot i. By
+// number, in one array: rule 20 takes the first lane that has a level, and the report's comes first.
 #[derive(Clone, Copy)]
 pub struct Lanes<'a> {
     pub block: &'a [u8],
@@ -55,7 +57,8 @@ pub struct Lanes<'a> {
     pub each: [Option<Lane>; 9],
 }
 
-// Where a record's pairs lie.
+// Where a record's pairs lie. Pairs go by number and count, no slice of them: of bytes that end before their pairs the rest is read as
+// zeros, for any block.
 #[derive(Clone, Copy)]
 pub enum Source<'a> {
     Report(&'a [u8]),
@@ -152,7 +155,8 @@ impl<'a> Source<'a> {
         }
     }
 
-    // The power of the first pair that ends after the minute; it stays up to that end.
+    // The power of the first pair that ends after the minute; it stays up to that end. Three functions ask that a minute is before `LAST`: a
+    // type of such minutes would have to be made anew at each turn of the sweep.
     fn step_among(self, count: u16, place: u16, m: Minute) -> LaneSpan
         requires m_bound { m.0 < 4294967295 }
         requires passed { Passed (pairs_of self) count place m.0 }
@@ -395,6 +399,7 @@ impl<'a> Lanes<'a> {
         ensures { result ≡ found_in (lane_levels self.now) limits period.start.0 period.end.0 }
     {
         let end = period.end;
+        // Beside the lanes and not in them: a place moves on with the minutes, and the lanes are lent to all that asks of them.
         let mut places = [0u16; 9];
         let mut m = period.start;
         let mut g = nothing_found();
@@ -457,7 +462,7 @@ impl<'a> Lanes<'a> {
     fn extremes_of(&self, record_type: RecordType, period: Period) -> Option<Extremes>
         ensures { CoversType self.now record_type.0 period result }
     {
-        // Of no power: the lowest is above the highest. A flag or an Option here would be asked in every turn.
+        // Of no power: the lowest is above the highest. Joining then needs no case for the first pair, which an Option would.
         let none = Extremes {
             lowest: Kilowatt(4294967295),
             highest: Kilowatt(0),
@@ -478,6 +483,7 @@ impl<'a> Lanes<'a> {
         requires { F.IsAlwaysCallable passes }
         ensures { AsksType self.now forced_work period (λ p. F.post passes p true) result }
     {
+        // Of no minute: it ends before it begins, so that joining needs no case for it, as in `extremes_of`.
         let none = Period {
             start: LAST,
             end: Minute(0),
@@ -507,6 +513,7 @@ fn common(p: Period, q: Period) -> Period
     }
 }
 
+// Not `Levels`: there the forced level is an Option, and each of these would ask for it again.
 fn fits_w1_m1(
     range: PowerRange,
     level: Kilowatt,
@@ -586,6 +593,7 @@ impl Limits {
         ((self.kind == Kind::W1) | (self.kind == Kind::M1)) & (level < self.range.min)
     }
 
+    // Warnings 2 and 4 are two rules: one function over a derating and a test would be no shorter than both, and name neither.
     #[tactic(auto, unfolding(rules::specs::Minutes::above_max))]
     fn above_max(self, l: Levels) -> bool
         ensures { result ≡ above_max self.kind.0 self.range l }
@@ -736,7 +744,8 @@ fn with_power(e: Extremes, power: Kilowatt) -> Extremes
     }
 }
 
-// With the minutes of a pair whose level does not fit, and those between.
+// With the minutes of a pair whose level does not fit, and those between. Of the shape of `with_power`, over minutes: one for both would
+// need a trait for two fields each.
 fn joined_with(asked: Period, from: Minute, to: Minute) -> Period
     ensures { result ≡ joined_with asked from to }
 {
@@ -857,6 +866,7 @@ pub fn warn(
         counted,
         with_report: false,
     };
+    // No report counts, so none is read: the block stands in its place.
     let lanes = lanes_of(b, b, swept, direction);
     let asked = lanes.asked_of(
         period,

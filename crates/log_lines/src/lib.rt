@@ -62,6 +62,7 @@ fn digit(n: u64) -> u8
     (48 + n % 10) as u8
 }
 
+// By hand, as `put_decimal` and for its reason.
 #[tactic(auto, unfolding(fields::specs::Lists::pick))]
 fn hex_digit(n: u8) -> u8
     requires { n < 16 }
@@ -274,7 +275,7 @@ fn put_number_line(text: &mut [u8], word: &[u8], n: u64) -> usize
     text.end
 }
 
-// What is printed where set-up refuses the roster.
+// What is printed where set-up refuses the roster. By number: `SetUpError` would refuse other numbers to callers.
 #[tactic(auto, unfolding(crate::specs::Log::fault_line))]
 pub fn put_fault(text: &mut [u8], number: u8) -> usize
     ensures { Puts 128 text.old (fault_line number) text.new result }

@@ -26,8 +26,8 @@ impl RegisterFile<'_> {
         Ok(())
     }
 
-    // How many bytes it has, as far as the register holds them. It is opened to be written as well, so that one that is
-    // write-protected stays as it is, and a pipe does not wait.
+    // How many bytes it has, as far as the register holds them, as `streams::read_full` tells it. It is opened to be written as well, so
+    // that one that is write-protected stays as it is, and a pipe does not wait.
     pub(crate) fn read<R: Files + Eprint + Alloc>(
         &self,
         rt: &R,

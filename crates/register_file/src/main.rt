@@ -10,6 +10,7 @@ ghost use Rattle.std.specs.Prelude.{◌≡◌, ◌≤◌, length};
 use block::{BLOCK_SIZE, ENTRY_SIZE};
 use disk::{RegisterFile, say};
 use log_lines::Plain;
+use setup::SetUpError;
 use std::env::Env;
 use std::io::{Eprint, Print, Read};
 use std::rt::Files;
@@ -50,13 +51,13 @@ fn run(rt: &HostRuntime) -> Result<(), Said> {
     }
 }
 
-// `rt` is what a function may do, so each is told it.
 fn say_use<R: Eprint>(rt: &R) -> Said {
     let line = "register_file: it takes set-up or answer, and the path of a register";
     say(rt, line)
 }
 
-// One entry more than a register holds, so that a longer roster is refused and not cut.
+// One entry more than a register holds, so that a longer roster is refused and not cut. `rt`, `reader` and `file` go to three functions: a
+// struct of them would lend all three, and each method still be told its words.
 fn set_up<R: Files + Print + Eprint + Alloc, I: Read>(
     rt: &R,
     reader: &mut I,
@@ -69,13 +70,14 @@ fn set_up<R: Files + Print + Eprint + Alloc, I: Read>(
     let units = length / ENTRY_SIZE;
     let size = BLOCK_SIZE * units;
     if let Err(error) = setup::set_up(&roster[..length], &mut register[..size]) {
-        return Err(say_refusal(rt, u8::from(error)));
+        return Err(say_refusal(rt, error));
     }
     file.write(rt, &register[..size])?;
     print_units(rt, units)
 }
 
-fn say_refusal<R: Eprint>(rt: &R, number: u8) -> Said {
+fn say_refusal<R: Eprint>(rt: &R, error: SetUpError) -> Said {
+    let number = u8::from(error);
     let _ = eprintln!(rt; "register_file: roster {number}: it is not 1 to 64 good entries");
     Said
 }

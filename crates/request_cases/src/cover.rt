@@ -48,6 +48,7 @@ fn offset_of(number: u16) -> usize
     PARTS_START + PART_SIZE * (number as usize) - PART_SIZE
 }
 
+// As the one in `sent_reports`, which has a `requires` and so is private there.
 fn put_part(report: &mut [u8], number: u16) {
     let at = offset_of(number);
     fields::put_u32(report, at, 0x4B50);
@@ -61,6 +62,7 @@ fn compose(buffer: &mut [u8], count: u16) -> &mut [u8] {
     let s = derating_over(1, D + 10, end_of(0), end_of(count));
     sent_reports::compose(buffer, s);
     fields::put_u16(buffer, 14, count);
+    // By number: what a part holds goes by it.
     for number in 1..=count {
         put_part(buffer, number);
     }

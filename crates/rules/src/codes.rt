@@ -37,5 +37,5 @@ impl State {
     pub const RP: State = State(6);
 }
 
-// The qualification in a unit's row after an event of code 5 or 6.
+// The qualification in a unit's row after an event of code 5 or 6; a number, as every qualification is (`report::Head`).
 pub const RE: u8 = 8;

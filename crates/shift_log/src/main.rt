@@ -6,6 +6,7 @@ ghost use Rattle.std.specs.Prelude.{◌+◌, ◌*◌, ◌≤◌, length, IfOk};
 
 use block::{BLOCK_SIZE, ENTRY_SIZE};
 use log_lines::{Lines, Plain, WithRemarks};
+use setup::SetUpError;
 use std::env::{Env, FillError};
 use std::io::{Eprint, Print, Read};
 use streams::Said;
@@ -48,7 +49,7 @@ fn log_input<L: Lines, R: Print + Eprint + Alloc, I: Read>(
     let mut register = [0u8; 57344];
     let size = BLOCK_SIZE * start.entries;
     if let Err(error) = setup::set_up(&input[..end], &mut register[..size]) {
-        return print_fault(rt, u8::from(error));
+        return print_fault(rt, error);
     }
     let mut report = [0u8; 1850];
     let ahead = start.ahead;
@@ -56,9 +57,9 @@ fn log_input<L: Lines, R: Print + Eprint + Alloc, I: Read>(
     log_reports::<L, _, _>(rt, reader, &mut register[..size], &mut report, ahead)
 }
 
-fn print_fault<R: Print + Eprint + Alloc>(rt: &R, number: u8) -> Result<(), Said> {
+fn print_fault<R: Print + Eprint + Alloc>(rt: &R, error: SetUpError) -> Result<(), Said> {
     let mut text = [0u8; 128];
-    let length = log_lines::put_fault(&mut text, number);
+    let length = log_lines::put_fault(&mut text, u8::from(error));
     print(rt, &text[..length])
 }
 

@@ -98,6 +98,7 @@ fn end_mark_in_range(h: Head) -> bool
     (h.end_mark == Mark::PLANNED) | (records::ends_early(h) & !event_or_withdrawal)
 }
 
+// A test for each code, as in `records`, and for the reason there.
 fn type_in_range(t: RecordType) -> bool
     ensures { result ≡ between stop event t.0 }
 {
