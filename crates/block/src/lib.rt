@@ -273,7 +273,8 @@ fn pairs_rise(pairs: &[[u8; PAIR_SIZE]], period: Period) -> bool
     ok & (start == period.end)
 }
 
-// The same by `ends_rise`, whose turns are shorter, where its bound is a power, as a rule; else by a test of each power.
+// The same by `ends_rise` where its bound is a power, as a rule; else by a test of each power. One loop for both would be told the test,
+// and carry the bound through every turn of it.
 fn pairs_fit(pairs: &[[u8; PAIR_SIZE]], period: Period) -> bool
     requires { (period.start.0 < 2147483648) × (period.end.0 < 2147483648) }
     ensures { result ≡ pairs_rise pairs.now period.start.0 period.end.0 }

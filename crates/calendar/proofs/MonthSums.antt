@@ -1,14 +1,15 @@
 -- The division that code comes near a day's month by, and the sums by which it reads a month, are right for all 600: tests that
 -- antt computes. Assumes nothing.
 use Prim.Native.Nat.{ℕ, zero, suc, ◌+◌, ◌-◌, ◌*◌, ◌/◌, ◌%◌, ◌≤◌, ◌<◌}
-use mathlib.Core.Path.{◌≡◌, refl}
+use mathlib.Core.Path.{◌≡◌, refl, sym}
+use mathlib.Core.Bool.{true, ◌&&◌}
 use mathlib.Core.Logic.{⊎_elim}
 use native.Mathlib.Omega.{arith}
 use native.Mathlib.Numerals.{sub-one}
 use lib.Dec.{leb, eqb}
 use borrow.Author.Tests.{eqb-true}
 use Rattle.fields.specs.Lists.{pick}
-use Rattle.fields.proofs.Bools.{lt-or-le}
+use Rattle.fields.proofs.Bools.{and_left, and_right, lt-or-le}
 use Rattle.calendar.specs.Calendar.{days_in, month_length, month_start, month_of}
 use Rattle.calendar.proofs.Months.{near, passes, passes_at, last-only}
 
@@ -55,32 +56,39 @@ quarters_before_march m = pick (leb m 1) 7 0
 abbrev pub first_day_by : ℕ → ℕ → ℕ
 first_day_by y m = (1461 * y + 4 * ((489 * m + 8) / 16) + quarters_before_march m - 4) / 4
 
-by-sums : (k : ℕ) → k < 600 → first_day_by (k / 12) (k % 12) ≡ month_start k
-unfolding passes days_in pick
-by-sums k l =
-    eqb-true (first_day_by (k / 12) (k % 12)) (month_start k) (passes_at (λ k start. eqb (first_day_by (k / 12) (k % 12)) start) k refl l)
-
-pub first_by : (y m : ℕ) → y ≤ 49 → m ≤ 11 → first_day_by y m ≡ month_start (y * 12 + m)
-first_by y m years months =
-    let p : (y * 12 + m) / 12 ≡ y = omega arith in
-    let q : (y * 12 + m) % 12 ≡ m = omega arith in
-    let same = by-sums (y * 12 + m) (omega arith) in
-    rw (p, q) at same
-
 -- In the fifty years every fourth is a leap year, and from August on the even months have 31 days.
 abbrev pub length_by : ℕ → ℕ → ℕ
 length_by y m = pick (eqb m 2) (pick (eqb (y % 4) 0) 29 28) (30 + (m + m / 8) % 2)
 
-lengths : (k : ℕ) → k < 600 → month_length k ≡ length_by (2000 + k / 12) (k % 12 + 1)
+by-arithmetic : (k : ℕ) → k < 600
+    → (eqb (first_day_by (k / 12) (k % 12)) (month_start k) && eqb (length_by (2000 + k / 12) (k % 12 + 1)) (month_length k)) ≡ true
 unfolding passes days_in pick
-lengths k l =
-    eqb-true (month_length k) (length_by (2000 + k / 12) (k % 12 + 1))
-    (passes_at (λ k start. eqb (month_length k) (length_by (2000 + k / 12) (k % 12 + 1))) k refl l)
+by-arithmetic k l =
+    passes_at
+    (λ k start. eqb (first_day_by (k / 12) (k % 12)) start && eqb (length_by (2000 + k / 12) (k % 12 + 1)) (month_length k))
+    k refl l
+
+module _ (y m : ℕ) (years : y ≤ 49) (months : m ≤ 11) where
+  arithmetic-at : (eqb (first_day_by y m) (month_start (y * 12 + m)) && eqb (length_by (2000 + y) (m + 1)) (days_in (2000 + y) (m + 1))) ≡ true
+  arithmetic-at =
+      let p : (y * 12 + m) / 12 ≡ y = omega arith in
+      let q : (y * 12 + m) % 12 ≡ m = omega arith in
+      let t = by-arithmetic (y * 12 + m) (omega arith) in
+      rw (p, q) at t
+
+  pub first_by : first_day_by y m ≡ month_start (y * 12 + m)
+  first_by =
+      eqb-true (first_day_by y m) (month_start (y * 12 + m))
+      (and_left _ (eqb (length_by (2000 + y) (m + 1)) (days_in (2000 + y) (m + 1))) arithmetic-at)
+
+  pub length-by : length_by (2000 + y) (m + 1) ≡ days_in (2000 + y) (m + 1)
+  length-by =
+      eqb-true (length_by (2000 + y) (m + 1)) (days_in (2000 + y) (m + 1))
+      (and_right (eqb (first_day_by y m) (month_start (y * 12 + m))) _ arithmetic-at)
 
 pub days_by : (y m : ℕ) → 2000 ≤ y → y ≤ 2049 → 1 ≤ m → m ≤ 12 → days_in y m ≡ length_by y m
 days_by y m low high first last =
-    let k = (y - 2000) * 12 + (m - 1) in
-    let year : 2000 + k / 12 ≡ y = omega arith in
-    let month : k % 12 + 1 ≡ m = omega arith in
-    let same = lengths k (omega arith) in
-    rw (year, month) at same
+    let year : 2000 + (y - 2000) ≡ y = omega arith in
+    let month : m - 1 + 1 ≡ m = omega arith in
+    let same = length-by (y - 2000) (m - 1) (omega arith) (omega arith) in
+    sym (rw (year, month) at same)

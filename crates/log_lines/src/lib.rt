@@ -298,6 +298,7 @@ fn one_more(n: u64) -> u64
     n.saturating_add(1)
 }
 
+// One `if`: `records::choose` would be one more crate below this one.
 #[tactic(auto, unfolding(fields::specs::Lists::pick))]
 fn counted(n: u64, counts: bool) -> u64
     ensures { result ≡ pick counts (one_more n) n }
