@@ -14,11 +14,14 @@ encode_head h =
     ++ bytes_of 2 h.ordinal ++ bytes_of 2 h.part_count ++ h.identifier ++ bytes_of 4 h.stamp.0
     ++ bytes_of 4 h.period.start.0 ++ bytes_of 4 h.period.end.0 ++ bytes_of 2 h.text_length ++ bytes_of 2 0
 
+abbrev pub encode_part : Part → List ℕ
+encode_part p =
+    bytes_of 2 part_mark ++ bytes_of 2 0 ++ bytes_of 4 p.period.start.0 ++ bytes_of 4 p.period.end.0
+    ++ bytes_of 4 (of_z w32 p.power.0)
+
 unfoldable pub encode_parts : List Part → List ℕ
 encode_parts [] = []
-encode_parts (p ∷ ps) =
-    bytes_of 2 part_mark ++ bytes_of 2 0 ++ bytes_of 4 p.period.start.0 ++ bytes_of 4 p.period.end.0
-    ++ bytes_of 4 (of_z w32 p.power.0) ++ encode_parts ps
+encode_parts (p ∷ ps) = encode_part p ++ encode_parts ps
 
 unfoldable pub encode_report : Head → List Part → List ℕ → List ℕ
 encode_report h ps text = encode_head h ++ encode_parts ps ++ bytes_of 2 text_mark ++ text

@@ -13,10 +13,9 @@ use Rattle.fields.specs.Lists.{pick, put}
 use Rattle.fields.proofs.Bools.{pick-elim, lt-or-le}
 use Rattle.fields.proofs.Slices.{put-append, put-past, put-length}
 use Rattle.calendar.specs.Calendar.{digit}
-use Rattle.log_lines.specs.declared.Text.{Text}
-use Rattle.log_lines.specs.Texts.{last_place, Writes, Puts}
-use Rattle.log_lines.specs.Log.{decimal_before, decimal}
-use Rattle.log_lines.specs.Run.{most_counted}
+use Rattle.texts.specs.declared.Text.{Text}
+use Rattle.texts.specs.Texts.{last_place, Writes, Puts}
+use Rattle.texts.specs.Numerals.{decimal_before, decimal}
 
 -- a place beyond the last one is as good as the last one
 put-in_reach : (s y : List ℕ) (k m : ℕ) → length s ≤ m → put s (min k m) y ≡ put s k y
@@ -96,7 +95,7 @@ pub decimal-one : (n : ℕ) → n < 10 → decimal n ≡ digit n ∷ []
 unfolding decimal_before pick
 decimal-one n l = rw (lt-ltb n 10 l)
 
-pub decimal-more : (n : ℕ) → 10 ≤ n → n ≤ most_counted → decimal n ≡ decimal (n / 10) ++ (digit n ∷ [])
+pub decimal-more : (n : ℕ) → 10 ≤ n → n ≤ last_place → decimal n ≡ decimal (n / 10) ++ (digit n ∷ [])
 unfolding decimal_before pick tens
 decimal-more n l h =
     let few : n / 10 < tens 19 = omega (arith, h) in
@@ -108,7 +107,7 @@ decimal-more n l h =
 pub one-digit : {a b : Text} {n v : ℕ} → n < 10 → v ≡ digit n → Writes 1 a (v ∷ []) b → Writes 20 a (decimal n) b
 one-digit {n = n} l e p = same_text (rw (e, decimal-one n l)) (omega arith) p
 
-pub digit-more : {a b d : Text} {n v : ℕ} → 10 ≤ n → n ≤ most_counted → v ≡ digit n → Writes 20 a (decimal (n / 10)) b
+pub digit-more : {a b d : Text} {n v : ℕ} → 10 ≤ n → n ≤ last_place → v ≡ digit n → Writes 20 a (decimal (n / 10)) b
     → Writes 1 b (v ∷ []) d → Writes 20 a (decimal n) d
 digit-more {a = a} {d = d} {n = n} l h e p q =
     let all : Writes 21 a (decimal n) d = rw (decimal-more n l h, ← e) (then p q) in

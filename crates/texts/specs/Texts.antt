@@ -1,7 +1,7 @@
 -- Texts that are put piece by piece. What a buffer has no room for is left out, and still counts.
 use Rattle.std.specs.Prelude.{◌≡◌, ℕ, ◌+◌, ◌≤◌, List, length, min}
 use Rattle.fields.specs.Lists.{put}
-use Rattle.log_lines.specs.declared.Text.{Text}
+use Rattle.texts.specs.declared.Text.{Text}
 
 -- the last place that a number of 64 bits says, which no buffer reaches
 abbrev pub last_place : ℕ

@@ -1,4 +1,4 @@
-use Rattle.log_lines.proofs.Text.+put_decimal.Given as goal
+use Rattle.texts.proofs.Text.+put_decimal.Given as goal
 
 abbrev pub decreases-put_decimal : goal.decreases-put_decimal
 decreases-put_decimal l = l.n

@@ -1,0 +1,4 @@
+pub mod Values
+pub mod Form
+pub mod Lent
+pub mod Refusals
