@@ -21,8 +21,10 @@ record Reached (s : List ℕ) (vs : List ℕ) (n : ℕ) (t : List ℕ) : Type 0 
   pub put : t ≡ put s 0 vs
   pub next : n ≡ length vs
 
-first : (s vs : List ℕ) (n : ℕ) → length vs ≡ n → Reached s vs n (put s 0 vs)
-first s vs n e = record { put = refl; next = sym e }
+-- nothing yet, one stretch more, and one number more
+none_yet : (s : List ℕ) → Reached s [] 0 s
+unfolding put
+none_yet s = record { put = refl; next = refl }
 
 more : {s vs : List ℕ} {n : ℕ} {t : List ℕ} → Reached s vs n t → (ws : List ℕ) (k : ℕ) → length ws ≡ k
     → Reached s (vs ++ ws) (n + k) (put t n ws)
@@ -32,6 +34,10 @@ more {s} {vs} {n} {t} r ws k e =
       put = rw (r.put, ← m) (sym (put-append vs ws s 0));
       next = rw (length-append vs ws, e, r.next);
     }
+
+number : {s vs : List ℕ} {n : ℕ} {t : List ℕ} → Reached s vs n t → (k v : ℕ)
+    → Reached s (vs ++ bytes_of k v) (n + k) (put t n (bytes_of k v))
+number r k v = more r (bytes_of k v) k (bytes-length k v)
 
 -- all that the array held before is gone
 all_put : (s vs : List ℕ) → length vs ≡ length s → put s 0 vs ≡ vs
@@ -49,26 +55,16 @@ pub head_put : (h : Head) → length h.identifier ≡ 16
     ≡ encode_head h
 unfolding encode_head
 head_put h long =
-    let s = replicate 48 0 in
-    let r2 = more (first s (bytes_of 2 report_mark) 2 (bytes-length 2 report_mark)) (bytes_of 2 h.unit) 2 (bytes-length 2 h.unit) in
-    let r4 = more r2 (bytes_of 2 h.owner) 2 (bytes-length 2 h.owner) in
+    let owned = number (number (number (none_yet (replicate 48 0)) 2 report_mark) 2 h.unit) 2 h.owner in
     let codes = h.record_type.0 ∷ h.operation.0 ∷ h.direction.0 ∷ h.start_mark.0 ∷ h.end_mark.0 ∷ h.qualification ∷ [] in
-    let r6 = more r4 codes 6 refl in
-    let r12 = more r6 (bytes_of 2 h.ordinal) 2 (bytes-length 2 h.ordinal) in
-    let r14 = more r12 (bytes_of 2 h.part_count) 2 (bytes-length 2 h.part_count) in
-    let r16 = more r14 h.identifier 16 long in
-    let r32 = more r16 (bytes_of 4 h.stamp.0) 4 (bytes-length 4 h.stamp.0) in
-    let r36 = more r32 (bytes_of 4 h.period.start.0) 4 (bytes-length 4 h.period.start.0) in
-    let r40 = more r36 (bytes_of 4 h.period.end.0) 4 (bytes-length 4 h.period.end.0) in
-    let r44 = more r40 (bytes_of 2 h.text_length) 2 (bytes-length 2 h.text_length) in
-    whole (more r44 (bytes_of 2 0) 2 (bytes-length 2 0)) refl
+    let counted = number (number (more owned codes 6 refl) 2 h.ordinal) 2 h.part_count in
+    let stamped = number (more counted h.identifier 16 long) 4 h.stamp.0 in
+    let timed = number (number stamped 4 h.period.start.0) 4 h.period.end.0 in
+    whole (number (number timed 2 h.text_length) 2 0) refl
 
 pub part_put : (p : Part) → put (put (put (put (put (replicate 16 0) 0 (bytes_of 2 part_mark)) 2 (bytes_of 2 0)) 4 (bytes_of 4 p.period.start.0))
     8 (bytes_of 4 p.period.end.0)) 12 (bytes_of 4 (of_z w32 p.power.0))
     ≡ encode_part p
 part_put p =
-    let s = replicate 16 0 in
-    let r2 = more (first s (bytes_of 2 part_mark) 2 (bytes-length 2 part_mark)) (bytes_of 2 0) 2 (bytes-length 2 0) in
-    let r4 = more r2 (bytes_of 4 p.period.start.0) 4 (bytes-length 4 p.period.start.0) in
-    let r8 = more r4 (bytes_of 4 p.period.end.0) 4 (bytes-length 4 p.period.end.0) in
-    whole (more r8 (bytes_of 4 (of_z w32 p.power.0)) 4 (bytes-length 4 (of_z w32 p.power.0))) refl
+    let marked = number (number (none_yet (replicate 16 0)) 2 part_mark) 2 0 in
+    whole (number (number (number marked 4 p.period.start.0) 4 p.period.end.0) 4 (of_z w32 p.power.0)) refl
