@@ -1,8 +1,8 @@
 use Rattle.std.proofs.Common.{ap}
 use Rattle.reader.specs.declared.LineHead.{LineHead}
 use Rattle.log_lines.specs.Log.{line_text}
-use Rattle.log_lines.proofs.Texts.{then}
-use Rattle.log_lines.proofs.Text.put_columns.Goals as goal
+use Rattle.texts.proofs.Texts.{then}
+use Rattle.log_lines.proofs.put_columns.Goals as goal
 
 pub returns : goal.returns
 unfolding line_text
