@@ -1,2 +1,4 @@
 pub mod Values
 pub mod Heads
+pub mod Covered
+pub mod Encoding
