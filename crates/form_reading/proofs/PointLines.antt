@@ -1,7 +1,7 @@
 -- The resolution's and the points' lines give the parts back, and the last line the text. Assumes nothing.
 use Prim.Native.Nat.{ℕ, zero, suc, ◌+◌, ◌-◌, ◌*◌, ◌/◌, ◌%◌, ◌≤◌, ◌<◌}
 use mathlib.Core.Path.{◌≡◌, refl, ap, sym, ◌∙◌}
-use mathlib.Core.Bool.{true, false, not}
+use mathlib.Core.Bool.{Bool, true, false, not}
 use mathlib.Core.List.{List, [], ◌∷◌, ◌++◌, append_assoc}
 use mathlib.Core.Logic.{⊎_elim}
 use native.Mathlib.Omega.{arith}
@@ -18,6 +18,7 @@ use Rattle.fields.specs.Fields.{u8_at}
 use Rattle.fields.specs.Lists.{pick, part, all, series, seek}
 use Rattle.fields.proofs.Bools.{and_right, chosen, passed_over, lt-or-le}
 use Rattle.fields.proofs.Tests.{all-at, series-more, seek_hit, seek-miss, seek-end}
+use Rattle.quantities.specs.declared.Minute.{Minute}
 use Rattle.report.specs.declared.Head.{Head}
 use Rattle.report.specs.declared.Part.{Part}
 use Rattle.report.specs.Report.{most_parts, most_text}
@@ -70,6 +71,11 @@ point_read f at n u rest l h e =
       after = rw m power.after;
     }
 
+same_minute : {m n : Minute} → m.0 ≡ n.0 → m ≡ n
+same_minute e =
+    let made : ℕ → Minute = λ k. record { 0 = k } in
+    ap made e
+
 -- a position gives its minute back
 position-back : (start m step : ℕ) → start ≤ m → m < 4294967296 → (m - start) % step ≡ 0
     → (start + ((m - start) / step + 1 - 1) * step) % 4294967296 ≡ m
@@ -104,8 +110,8 @@ module _ (h : Head) (parts : ℕ → Part) (bits : ℕ → ℕ) (k step : ℕ) (
         → drop (point_at f at j) f ≡ point_line h step (parts j) ++ lines_from text (j + 1)
     unfolding point_lines
     line_there j l e =
-        rw (series-more parts j k l) at e
-        ∙ append_assoc (point_line h step (parts j)) (point_lines h step (series parts (j + 1) (k - (j + 1)))) (line (ascii "text=") text)
+        let more = point_lines h step (series parts (j + 1) (k - (j + 1))) in
+        rw (series-more parts j k l) at e ∙ append_assoc (point_line h step (parts j)) more (line (ascii "text=") text)
 
     read_here : (j : ℕ) → j < k → drop (point_at f at j) f ≡ lines_from text j
         → PointRead (point_in f (point_at f at j)) (position h step (parts j)) (bits j) f (lines_from text (j + 1))
@@ -123,7 +129,7 @@ module _ (h : Head) (parts : ℕ → Part) (bits : ℕ → ℕ) (k step : ℕ) (
         let one : j + 1 ≡ suc j = omega arith in
         rw one at (read_here j (omega arith) (places j (omega arith))).after
 
-    pub read_there : (j : ℕ) → j < k
+    read_there : (j : ℕ) → j < k
         → PointRead (point_in f (point_at f at j)) (position h step (parts j)) (bits j) f (lines_from text (j + 1))
     read_there j l = read_here j l (places j (omega arith))
 
@@ -140,23 +146,24 @@ module _ (h : Head) (parts : ℕ → Part) (bits : ℕ → ℕ) (k step : ℕ) (
     no_point = rw (text-begins f (point_at f at k) text text_there)
 
     -- the points are counted up to the text
-    counted_from : (j : ℕ) → j ≤ k
-        → point_count f at ≡ seek (λ i. not (is_point f (point_at f at i))) j (most_parts - j)
+    abbrev no_point_at : ℕ → Bool
+    no_point_at j = not (is_point f (point_at f at j))
+
+    counted_from : (j : ℕ) → j ≤ k → point_count f at ≡ seek no_point_at j (most_parts - j)
     unfolding point_count
     counted_from zero l = refl
     counted_from (suc j) l =
         let one : j + 1 ≡ suc j = omega arith in
-        counted_from j (omega arith)
-        ∙ rw one at (seek-miss (λ i. not (is_point f (point_at f at i))) j most_parts (omega (arith, points.few)) (rw (has_point j (omega arith))))
+        let missed = seek-miss no_point_at j most_parts (omega (arith, points.few)) (rw (has_point j (omega arith))) in
+        counted_from j (omega arith) ∙ rw one at missed
 
     pub counted : point_count f at ≡ k
     counted =
-        let none = λ (i : ℕ). not (is_point f (point_at f at i)) in
         counted_from k (omega arith)
-        ∙ ⊎_elim (λ l. seek_hit none k most_parts l (rw no_point))
+        ∙ ⊎_elim (λ l. seek_hit no_point_at k most_parts l (rw no_point))
         (λ l.
         let all : k ≡ most_parts = omega (arith, points.few) in
-        seek-end none k most_parts all ∙ sym all)
+        seek-end no_point_at k most_parts all ∙ sym all)
         (lt-or-le k most_parts)
 
     module _ (g : Grid) (same_period : g.period ≡ h.period) (same_step : 1 ≤ k → g.step ≡ step) where
@@ -164,7 +171,7 @@ module _ (h : Head) (parts : ℕ → Part) (bits : ℕ → ℕ) (k step : ℕ) (
       start_read j l =
           let start = (parts j).period.start in
           let back = position-back h.period.start.0 start.0 step (points.link j l).late (points.early j l) (start-falls j l) in
-          rw ((read_there j l).position, same_period, same_step (omega arith)) (ap (λ (m : ℕ). record { 0 = m }) back)
+          rw ((read_there j l).position, same_period, same_step (omega arith)) (same_minute back)
 
       end-at : (j : ℕ) → end_in f g (point_at f at j)
           ≡ pick (is_point f (point_at f at (suc j))) (start_in f g (point_at f at (suc j))) g.period.end
@@ -178,15 +185,13 @@ module _ (h : Head) (parts : ℕ → Part) (bits : ℕ → ℕ) (k step : ℕ) (
           let one : j + 1 ≡ suc j = omega arith in
           end-at j
           ∙ ⊎_elim
-          (λ m.
-          let met : (parts (suc j)).period.start.0 ≡ (parts j).period.end.0 = sym (rw one at (points.link j l).next (omega arith)) in
-          chosen (start_in f g next) g.period.end {q = is_point f next} refl (has_point (suc j) m) ∙ start_read (suc j) m
-          ∙ ap (λ (m : ℕ). record { 0 = m }) met)
-          (λ m.
+          (λ more.
+          chosen (start_in f g next) g.period.end {q = is_point f next} refl (has_point (suc j) more) ∙ start_read (suc j) more
+          ∙ same_minute (sym (rw one at (points.link j l).next (omega arith))))
+          (λ none.
           let last : k ≡ suc j = omega arith in
-          let met : h.period.end.0 ≡ (parts j).period.end.0 = sym ((points.link j l).last (omega arith)) in
           passed_over (start_in f g next) g.period.end {q = is_point f next} refl (rw last at no_point)
-          ∙ rw same_period (ap (λ (m : ℕ). record { 0 = m }) met))
+          ∙ rw same_period (same_minute (sym ((points.link j l).last (omega arith)))))
           (lt-or-le (suc j) k)
 
       part_read : (j : ℕ) → j < k → part_in f g (point_at f at j) ≡ parts j
@@ -214,11 +219,12 @@ pub step_read : (f text : List ℕ) (at step : ℕ) (h : Head) (ps : List Part) 
 unfolding part_lines point_lines resolution_in pick
 step_read f text at step h [] l e = rw (text-begins f at text e) record { value = λ m. absurd (omega arith); after = e }
 step_read f text at step h (p ∷ ps) l e =
-    let points = point_lines h step (p ∷ ps) ++ line (ascii "text=") text in
+    let points = point_lines h step (p ∷ ps) in
+    let last = line (ascii "text=") text in
     let some : eqb (suc (length ps)) 0 ≡ false = ne_eqb (suc (length ps)) 0 (λ q. omega arith) in
-    let lines = rw some at e ∙ append_assoc (number_line (ascii "resolution=") step) (point_lines h step (p ∷ ps)) (line (ascii "text=") text) in
-    let m = number-line f at step (ascii "resolution=") points (omega arith) lines in
-    rw (resolution-begins f at (decimal step) points lines) record { value = λ n. rw m.value (omega arith); after = m.after }
+    let lines = rw some at e ∙ append_assoc (number_line (ascii "resolution=") step) points last in
+    let m = number-line f at step (ascii "resolution=") (points ++ last) (omega arith) lines in
+    rw (resolution-begins f at (decimal step) (points ++ last) lines) record { value = λ n. rw m.value (omega arith); after = m.after }
 
 -- the text, and its length
 module _ (f text : List ℕ) (at : ℕ) (short : length text ≤ most_text) (there : drop at f ≡ line (ascii "text=") text) where
