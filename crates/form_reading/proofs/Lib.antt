@@ -1,3 +1,5 @@
+pub mod Values
+pub mod Heads
 pub mod Covered
 pub mod Encoding
 pub mod Formed
