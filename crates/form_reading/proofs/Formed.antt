@@ -9,6 +9,7 @@ use lib.Dec.{eqb}
 use lib.ListN.{length}
 use borrow.Author.Tests.{leb-true, eqb-true}
 use Rattle.std.specs.Prelude.{Result, is_ok}
+use Rattle.fields.specs.Fields.{u8_at}
 use Rattle.fields.specs.Lists.{all}
 use Rattle.fields.proofs.Bools.{every_true, pick-elim}
 use Rattle.fields.proofs.Tests.{series-length}
@@ -23,7 +24,10 @@ use Rattle.report.proofs.Sizes.{whole-sized}
 use Rattle.rules.specs.Records.{fields_in_range, cover_by}
 use Rattle.rules.specs.Questions.{question4, question8}
 use Rattle.forms.specs.Form.{text_of, printable, has_form}
+use Rattle.form_reading.specs.Reading.{AreBytes}
+use Rattle.form_reading.proofs.Bytes.{series_bytes, two-small}
 use Rattle.form_reading.proofs.Covered.{Link, linked}
+use Rattle.form_reading.proofs.Heads.{InRange}
 
 pub record Formed (s : List ℕ) : Type 0 where
   pub is_whole : whole s ≡ true
@@ -67,3 +71,23 @@ pub text-length : (s : List ℕ) → whole s ≡ true → length (text_of s) ≡
 text-length s w =
     let sizes = whole-sized s w in
     part_length s (text_start s) (text_length_of s) (omega (arith, sizes.long))
+
+pub in_range : (s : List ℕ) → AreBytes s → has_form s ≡ true → InRange (head_of s)
+in_range s bytes e =
+    let known = formed s e in
+    record {
+      unit = two-small s bytes 2;
+      owner = two-small s bytes 4;
+      record_type = bytes 6;
+      operation = bytes 7;
+      direction = bytes 8;
+      start_mark = bytes 9;
+      end_mark = bytes 10;
+      qualification = bytes 11;
+      ordinal = two-small s bytes 12;
+      long = series-length (u8_at s) 16 16;
+      bytes = series_bytes (u8_at s) 16 16 bytes;
+      stamp = known.stamp;
+      start = known.start;
+      end = known.end;
+    }

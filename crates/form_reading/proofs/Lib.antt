@@ -1,5 +1,6 @@
 pub mod Values
 pub mod Heads
+pub mod Bytes
 pub mod Covered
 pub mod Encoding
 pub mod Formed
