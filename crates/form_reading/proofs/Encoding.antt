@@ -16,13 +16,13 @@ use Rattle.fields.specs.Lists.{part, series}
 use Rattle.fields.specs.Fields.{u8_at, u16_at, u32_at, uint_at, bytes_of}
 use Rattle.fields.proofs.Bools.{and_left, and_right}
 use Rattle.fields.proofs.Tests.{all-at}
-use Rattle.fields.proofs.Numbers.{four_bytes}
 use Rattle.fields.proofs.Rests.{series-taken}
 use Rattle.report.specs.Report.{report_mark, part_mark, text_mark, part_start, part_count_of, text_length_of, head_of, part_at, parts_of, part_marked, parts_marked, sized, marked, whole}
 use Rattle.report.specs.Encoded.{encode_head, encode_part, encode_parts, encode_report}
 use Rattle.report.proofs.Sizes.{whole-sized}
 use Rattle.forms.specs.Form.{text_of}
 use Rattle.form_reading.specs.Reading.{AreBytes}
+use Rattle.form_reading.proofs.Bytes.{four-small}
 
 -- one stretch after the other
 pub stretch-join : {x y : List ℕ} (s : List ℕ) (at n m : ℕ) → x ≡ part s at n → y ≡ part s (at + n) m → x ++ y ≡ part s at (n + m)
@@ -75,9 +75,6 @@ module _ (s : List ℕ) (bytes : AreBytes s) where
   mark : (n at v : ℕ) → at + n ≤ length s → uint_at n s at ≡ v → bytes_of n v ≡ part s at n
   mark n at v l e = ap (bytes_of n) (sym e) ∙ number n at l
 
-  four-small : (at : ℕ) → u32_at s at < 4294967296
-  four-small at = omega (arith, four_bytes s at, bytes at, bytes (at + 1), bytes (at + 2), bytes (at + 3))
-
   module _ (is_whole : whole s ≡ true) where
     long : length s ≡ part_start (part_count_of s) + 2 + text_length_of s
     long = (whole-sized s is_whole).long
@@ -111,7 +108,7 @@ module _ (s : List ℕ) (bytes : AreBytes s) where
         let at = part_start j in
         let marks = (whole-marked s is_whole).parts j l in
         let end : at + 4 + 4 ≡ at + 8 = omega arith in
-        let power : of_z w32 (to_z w32 (u32_at s (at + 12))) ≡ u32_at s (at + 12) = of_z-to_z w32 (u32_at s (at + 12)) (four-small (at + 12)) in
+        let power : of_z w32 (to_z w32 (u32_at s (at + 12))) ≡ u32_at s (at + 12) = of_z-to_z w32 (u32_at s (at + 12)) (four-small s bytes (at + 12)) in
         rw (power, end)
         (stretch-join s at 12 4
         (stretch-join s at 8 4
