@@ -1,11 +1,10 @@
 -- A number's digits as a loop reads them. Assumes nothing.
-use Rattle.std.proofs.Common.{◌≡◌, ℕ, zero, suc, ◌+◌, ◌-◌, ◌*◌, ◌≤◌, ◌<◌, Bool, true, false, List, refl, sym, ◌∙◌, arith, add-zero, add-one}
+use Rattle.std.proofs.Common.{◌≡◌, ℕ, suc, ◌+◌, ◌-◌, ◌*◌, ◌≤◌, ◌<◌, Bool, true, false, List, sym, ◌∙◌, arith, add-zero, add-one}
 use native.Mathlib.Nat.{pow-suc}
 use Prim.Native.Nat.{◌^◌}
 use Rattle.fields.specs.Fields.{u8_at}
 use Rattle.fields.specs.Lists.{pick}
 use Rattle.fields.proofs.Bools.{range-true}
-use Rattle.form_reading.specs.declared.Numeral.{Numeral}
 use Rattle.form_reading.specs.Reading.{is_digit, digits_at, number_at}
 
 -- What a loop over the ten places keeps: j digits have given n.

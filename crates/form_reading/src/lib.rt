@@ -4,9 +4,10 @@
 ghost use Rattle.std.specs.Prelude.{◌≡◌, ◌+◌, ◌*◌, ◌-◌, ◌≤◌, ◌<◌, ◌%◌};
 ghost use Rattle.fields.specs.Lists.{part, series};
 ghost use Rattle.form_reading.specs.Reading.{is_digit, number_at, number_in, power_at, hex_value, hex_byte, date_at};
+ghost use Rattle.form_reading.specs.Reading.{code_lines_in, mark_lines_in, date_lines_in, resolution_in, is_point, point_in, point_at, point_count, text_length_in, lines_in, head_by};
 
 use quantities::{Minute, Period, SignedKilowatt};
-use report::Head;
+use report::{Direction, Head, MOST_PARTS, Mark, Operation, RecordType};
 
 // A number that was read, and the place after it.
 #[derive(Clone, Copy)]
@@ -56,6 +57,13 @@ pub struct Point {
 pub struct Grid {
     pub period: Period,
     pub step: u16,
+}
+
+// How many points there are, and the place after them.
+#[derive(Clone, Copy)]
+pub struct Points {
+    pub count: u16,
+    pub next: usize,
 }
 
 // What a form's lines give, with the places of the first point and of the text.
@@ -178,5 +186,177 @@ fn date_at(s: &[u8], at: usize) -> Minute
     match calendar::read_date(part(s, at, 16)) {
         Ok(m) => m,
         Err(_) => Minute(0),
+    }
+}
+
+#[tactic(auto, unfolding(crate::specs::Reading::code_lines_in))]
+fn code_lines_in(s: &[u8]) -> CodeLines
+    ensures read { result ≡ code_lines_in s.now }
+    ensures bounds { result.next ≤ 91 }
+{
+    let unit = number_in(5, s, 0);
+    let owner = number_in(6, s, unit.next);
+    let record_type = number_in(5, s, owner.next);
+    let operation = number_in(10, s, record_type.next);
+    let direction = number_in(10, s, operation.next);
+    CodeLines {
+        unit: (unit.value % 65536) as u16,
+        owner: (owner.value % 65536) as u16,
+        record_type: (record_type.value % 256) as u8,
+        operation: (operation.value % 256) as u8,
+        direction: (direction.value % 256) as u8,
+        next: direction.next,
+    }
+}
+
+#[tactic(auto, unfolding(crate::specs::Reading::mark_lines_in))]
+fn mark_lines_in(s: &[u8], at: usize) -> MarkLines
+    requires { at ≤ 91 }
+    ensures read { result ≡ mark_lines_in s.now at }
+    ensures bounds { result.next ≤ 221 }
+{
+    let start = number_in(11, s, at);
+    let end = number_in(9, s, start.next);
+    let qualification = number_in(14, s, end.next);
+    let ordinal = number_in(8, s, qualification.next);
+    let identifier = identifier_at(s, ordinal.next + 11);
+    MarkLines {
+        start_mark: (start.value % 256) as u8,
+        end_mark: (end.value % 256) as u8,
+        qualification: (qualification.value % 256) as u8,
+        ordinal: (ordinal.value % 65536) as u16,
+        identifier,
+        next: ordinal.next + 44,
+    }
+}
+
+#[tactic(auto, unfolding(crate::specs::Reading::date_lines_in))]
+fn date_lines_in(s: &[u8], at: usize) -> DateLines
+    requires { at ≤ 221 }
+    ensures read { result ≡ date_lines_in s.now at }
+    ensures bounds { result.next ≤ 288 }
+{
+    let stamp = date_at(s, at + 6);
+    let start = date_at(s, at + 29);
+    let end = date_at(s, at + 50);
+    let period = Period { start, end };
+    DateLines {
+        stamp,
+        period,
+        next: at + 67,
+    }
+}
+
+// The resolution, where its line is there: its name begins with "r".
+#[tactic(auto, unfolding(crate::specs::Reading::resolution_in, fields::specs::Lists::pick))]
+fn resolution_in(s: &[u8], at: usize) -> Numeral
+    requires { at ≤ 288 }
+    ensures read { result ≡ resolution_in s.now at }
+    ensures bounds { result.next ≤ 310 }
+{
+    if fields::u8_at(s, at) == b'r' {
+        number_in(11, s, at)
+    } else {
+        Numeral { value: 1, next: at }
+    }
+}
+
+// The line of a point begins with "p".
+fn is_point(s: &[u8], at: usize) -> bool
+    ensures { result ≡ is_point s.now at }
+{
+    fields::u8_at(s, at) == b'p'
+}
+
+#[tactic(auto, unfolding(crate::specs::Reading::point_in))]
+fn point_in(s: &[u8], at: usize) -> Point
+    requires { at ≤ 8192 }
+    ensures read { result ≡ point_in s.now at }
+    ensures bounds { (result.position < 10000000000) × (result.next ≤ at + 29) }
+{
+    let position = number_at(s, at + 6);
+    let power = power_at(s, position.next + 1);
+    Point {
+        position: position.value,
+        power: SignedKilowatt((power.value as u32).cast_signed()),
+        next: power.next,
+    }
+}
+
+fn points_in(s: &[u8], at: usize) -> Points
+    requires { at ≤ 310 }
+    ensures count { result.count ≡ point_count s.now at }
+    ensures next { result.next ≡ point_at s.now at result.count }
+    ensures bounds { (result.count ≤ 100) × (result.next ≤ 3210) }
+{
+    let mut next = at;
+    for j in 0..MOST_PARTS {
+        if !is_point(s, next) {
+            return Points { count: j, next };
+        }
+        next = point_in(s, next).next;
+    }
+    Points {
+        count: MOST_PARTS,
+        next,
+    }
+}
+
+// What is left of the form behind the name of its last line and before the line feed.
+fn text_length_in(s: &[u8], at: usize) -> u16
+    requires { at ≤ 8192 }
+    ensures read { result ≡ text_length_in s.now at }
+    ensures bounds { result ≤ 200 }
+{
+    s.len().saturating_sub(at + 6).min(200) as u16
+}
+
+#[tactic(auto, unfolding(crate::specs::Reading::lines_in))]
+fn lines_in(s: &[u8]) -> Lines
+    ensures read { result ≡ lines_in s.now }
+    ensures bounds { (result.head.part_count ≤ 100) × (result.head.text_length ≤ 200) × (result.points_at ≤ 310) × (result.text_at ≤ 3215) }
+{
+    let codes = code_lines_in(s);
+    let marks = mark_lines_in(s, codes.next);
+    let dates = date_lines_in(s, marks.next);
+    let step = resolution_in(s, dates.next);
+    let points = points_in(s, step.next);
+    let text_length = text_length_in(s, points.next);
+    let head = head_by(codes, marks, dates, points.count, text_length);
+    Lines {
+        head,
+        step: (step.value % 65536) as u16,
+        points_at: step.next,
+        text_at: points.next + 5,
+    }
+}
+
+fn head_by(
+    codes: CodeLines,
+    marks: MarkLines,
+    dates: DateLines,
+    part_count: u16,
+    text_length: u16,
+) -> Head
+    ensures { result ≡ head_by codes marks dates part_count text_length }
+{
+    let identifier = marks.identifier;
+    let stamp = dates.stamp;
+    let period = dates.period;
+    Head {
+        unit: codes.unit,
+        owner: codes.owner,
+        record_type: RecordType(codes.record_type),
+        operation: Operation(codes.operation),
+        direction: Direction(codes.direction),
+        start_mark: Mark(marks.start_mark),
+        end_mark: Mark(marks.end_mark),
+        qualification: marks.qualification,
+        ordinal: marks.ordinal,
+        part_count,
+        identifier,
+        stamp,
+        period,
+        text_length,
     }
 }
