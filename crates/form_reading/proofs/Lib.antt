@@ -1,2 +1,3 @@
 pub mod Scanned
 pub mod Counted
+pub mod PartsPut

@@ -1,13 +1,16 @@
 // The report of a form. A form is read by writing: the report that its lines give is written as a form again, and compared.
 #![tactic(auto)]
 
-ghost use Rattle.std.specs.Prelude.{◌≡◌, ◌+◌, ◌*◌, ◌-◌, ◌≤◌, ◌<◌, ◌%◌};
-ghost use Rattle.fields.specs.Lists.{part, series};
+ghost use Rattle.std.specs.Prelude.{◌≡◌, ◌+◌, ◌*◌, ◌-◌, ◌≤◌, ◌<◌, ◌%◌, ◌++◌};
+ghost use Rattle.fields.specs.Lists.{pick, part, series};
 ghost use Rattle.form_reading.specs.Reading.{is_digit, number_at, number_in, power_at, hex_value, hex_byte, date_at};
-ghost use Rattle.form_reading.specs.Reading.{code_lines_in, mark_lines_in, date_lines_in, resolution_in, is_point, point_in, point_at, point_count, text_length_in, lines_in, head_by};
+ghost use Rattle.form_reading.specs.Reading.{code_lines_in, mark_lines_in, date_lines_in, resolution_in, is_point, point_in, point_at, point_count, text_length_in, lines_in, head_by, minute_of, grid_of, parts_in, report_by};
+ghost use Rattle.report.specs.Encoded.{encode_head, encode_parts};
+ghost use Rattle.texts.specs.Texts.{Writes};
 
 use quantities::{Minute, Period, SignedKilowatt};
-use report::{Direction, Head, MOST_PARTS, Mark, Operation, RecordType};
+use report::{Direction, Head, MOST_PARTS, Mark, Operation, Part, RecordType};
+use texts::Text;
 
 // A number that was read, and the place after it.
 #[derive(Clone, Copy)]
@@ -359,4 +362,64 @@ fn head_by(
         period,
         text_length,
     }
+}
+
+fn minute_of(grid: Grid, position: u64) -> Minute
+    requires { position < 10000000000 }
+    ensures { result ≡ minute_of grid position }
+{
+    let after = position.saturating_sub(1) * u64::from(grid.step);
+    Minute(((u64::from(grid.period.start.0) + after) % 4294967296) as u32)
+}
+
+// The part of a point, whose value holds until the next one, where there is one more, and else until the period's end.
+#[tactic(auto, unfolding(fields::specs::Lists::pick))]
+fn part_of(grid: Grid, point: Point, more: bool, next: Point) -> Part
+    requires { (point.position < 10000000000) × (next.position < 10000000000) }
+    ensures { result ≡ record { period = record { start = minute_of grid point.position; end = pick more (minute_of grid next.position) grid.period.end }; power = point.power } }
+{
+    let start = minute_of(grid, point.position);
+    let end = if more {
+        minute_of(grid, next.position)
+    } else {
+        grid.period.end
+    };
+    let period = Period { start, end };
+    let power = point.power;
+    Part { period, power }
+}
+
+fn grid_of(lines: Lines) -> Grid
+    ensures { result ≡ grid_of lines }
+{
+    let period = lines.head.period;
+    let step = lines.step;
+    Grid { period, step }
+}
+
+// The head and the parts. Each line is read once, for its own part and for the end of the one before it.
+fn put_parts(report: &mut Text, form: &[u8], lines: Lines)
+    requires { (lines.points_at ≤ 310) × (lines.head.part_count ≤ 100) }
+    ensures { Writes 1648 report.old (encode_head lines.head ++ encode_parts (parts_in form.now (grid_of lines) lines.points_at lines.head.part_count)) report.new }
+{
+    let head = lines.head;
+    let grid = grid_of(lines);
+    report.put(&encoder::head_bytes(head));
+    let mut point = point_in(form, lines.points_at);
+    for _ in 0..head.part_count {
+        let more = is_point(form, point.next);
+        let next = point_in(form, point.next);
+        report.put(&encoder::part_bytes(part_of(grid, point, more, next)));
+        point = next;
+    }
+}
+
+// The report that these lines say.
+fn put_report(report: &mut Text, form: &[u8], lines: Lines)
+    requires { (lines.points_at ≤ 310) × (lines.head.part_count ≤ 100) × (lines.head.text_length ≤ 200) }
+    ensures { Writes 1850 report.old (report_by form.now lines) report.new }
+{
+    put_parts(report, form, lines);
+    report.put(b"TX");
+    report.put(part(form, lines.text_at, usize::from(lines.head.text_length)));
 }
