@@ -6,3 +6,6 @@ pub mod PointLines
 pub mod FormLines
 pub mod Encoding
 pub mod Formed
+pub mod Scanned
+pub mod Counted
+pub mod PartsPut
