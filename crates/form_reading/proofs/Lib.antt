@@ -4,3 +4,4 @@ pub mod Bytes
 pub mod Covered
 pub mod Encoding
 pub mod Formed
+pub mod ReadBytes
