@@ -3,7 +3,7 @@ use Prim.Native.Nat.{ℕ, ◌+◌, ◌≤◌, ◌<◌}
 use mathlib.Core.Path.{◌≡◌, ◌∙◌}
 use mathlib.Core.List.{List, ◌∷◌, ◌++◌, append_assoc}
 use native.Mathlib.Omega.{arith}
-use lib.ListN.{length, get_or, drop}
+use lib.ListN.{length, drop}
 use Rattle.fields.specs.Ascii.{ascii}
 use Rattle.quantities.specs.Quantities.{last_minute}
 use Rattle.report.specs.declared.Head.{Head}
@@ -12,7 +12,7 @@ use Rattle.forms.specs.Form.{code_lines, mark_lines, date_lines}
 use Rattle.form_reading.specs.declared.CodeLines.{CodeLines}
 use Rattle.form_reading.specs.declared.MarkLines.{MarkLines}
 use Rattle.form_reading.specs.declared.DateLines.{DateLines}
-use Rattle.form_reading.specs.Reading.{number_in, code_lines_in, mark_lines_in, date_lines_in, head_by}
+use Rattle.form_reading.specs.Reading.{number_in, code_lines_in, mark_lines_in, date_lines_in, head_by, AreBytes}
 use Rattle.form_reading.proofs.Values.{number-line, date-line, identifier-back, hex-length, value_there, line_past}
 
 -- a head whose fields fit their bytes, with an identifier of bytes and dates that are printed
@@ -27,7 +27,7 @@ pub record InRange (h : Head) : Type 0 where
   pub qualification : h.qualification < 256
   pub ordinal : h.ordinal < 65536
   pub long : length h.identifier ≡ 16
-  pub bytes : (i : ℕ) → get_or h.identifier i 0 < 256
+  pub bytes : AreBytes h.identifier
   pub stamp : h.stamp.0 ≤ last_minute
   pub start : h.period.start.0 ≤ last_minute
   pub end : h.period.end.0 ≤ last_minute
@@ -72,11 +72,14 @@ module _ (f rest : List ℕ) (h : Head) (range : InRange h) where
       let l3 = number_line (ascii "type=") h.record_type.0 in
       let l4 = number_line (ascii "operation=") h.operation.0 in
       let l5 = number_line (ascii "direction=") h.direction.0 in
+      let r5 = l5 ++ rest in
+      let r4 = l4 ++ r5 in
+      let r3 = l3 ++ r4 in
       let lines = there ∙ regroup5 (number_line (ascii "unit=") h.unit) l2 l3 l4 l5 rest in
-      let unit = number-line f 0 h.unit (ascii "unit=") (l2 ++ (l3 ++ (l4 ++ (l5 ++ rest)))) (omega (arith, range.unit)) lines in
-      let owner = number-line f p1 h.owner (ascii "owner=") (l3 ++ (l4 ++ (l5 ++ rest))) (omega (arith, range.owner)) unit.after in
-      let type = number-line f p2 h.record_type.0 (ascii "type=") (l4 ++ (l5 ++ rest)) (omega (arith, range.record_type)) owner.after in
-      let operation = number-line f p3 h.operation.0 (ascii "operation=") (l5 ++ rest) (omega (arith, range.operation)) type.after in
+      let unit = number-line f 0 h.unit (ascii "unit=") (l2 ++ r3) (omega (arith, range.unit)) lines in
+      let owner = number-line f p1 h.owner (ascii "owner=") r3 (omega (arith, range.owner)) unit.after in
+      let type = number-line f p2 h.record_type.0 (ascii "type=") r4 (omega (arith, range.record_type)) owner.after in
+      let operation = number-line f p3 h.operation.0 (ascii "operation=") r5 (omega (arith, range.operation)) type.after in
       let direction = number-line f p4 h.direction.0 (ascii "direction=") rest (omega (arith, range.direction)) operation.after in
       record {
         unit = rw unit.value (omega (arith, range.unit));
@@ -99,11 +102,14 @@ module _ (f rest : List ℕ) (h : Head) (range : InRange h) where
       let l3 = number_line (ascii "qualification=") h.qualification in
       let l4 = number_line (ascii "ordinal=") h.ordinal in
       let l5 = line (ascii "identifier=") id in
+      let r5 = l5 ++ rest in
+      let r4 = l4 ++ r5 in
+      let r3 = l3 ++ r4 in
       let lines = there ∙ regroup5 (number_line (ascii "start_mark=") h.start_mark.0) l2 l3 l4 l5 rest in
-      let start = number-line f at h.start_mark.0 (ascii "start_mark=") (l2 ++ (l3 ++ (l4 ++ (l5 ++ rest)))) (omega (arith, range.start_mark)) lines in
-      let end = number-line f p1 h.end_mark.0 (ascii "end_mark=") (l3 ++ (l4 ++ (l5 ++ rest))) (omega (arith, range.end_mark)) start.after in
-      let qualification = number-line f p2 h.qualification (ascii "qualification=") (l4 ++ (l5 ++ rest)) (omega (arith, range.qualification)) end.after in
-      let ordinal = number-line f p3 h.ordinal (ascii "ordinal=") (l5 ++ rest) (omega (arith, range.ordinal)) qualification.after in
+      let start = number-line f at h.start_mark.0 (ascii "start_mark=") (l2 ++ r3) (omega (arith, range.start_mark)) lines in
+      let end = number-line f p1 h.end_mark.0 (ascii "end_mark=") r3 (omega (arith, range.end_mark)) start.after in
+      let qualification = number-line f p2 h.qualification (ascii "qualification=") r4 (omega (arith, range.qualification)) end.after in
+      let ordinal = number-line f p3 h.ordinal (ascii "ordinal=") r5 (omega (arith, range.ordinal)) qualification.after in
       let value = value_there f p4 (ascii "identifier=") id rest ordinal.after in
       let n : p4 + 11 + length id + 1 ≡ p4 + 44 = omega (arith, hex-length h.identifier, range.long) in
       record {

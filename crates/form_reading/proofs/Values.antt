@@ -28,7 +28,7 @@ use Rattle.texts.specs.Numerals.{decimal, hex_digit}
 use Rattle.texts.proofs.Texts.{decimal-one, decimal-more}
 use Rattle.forms.specs.Values.{line, number_line, date_line, hex_text, signed_decimal}
 use Rattle.form_reading.specs.declared.Numeral.{Numeral}
-use Rattle.form_reading.specs.Reading.{is_digit, digits_at, number_at, number_in, power_at, hex_value, hex_byte, minute_or_0, date_at}
+use Rattle.form_reading.specs.Reading.{is_digit, digits_at, number_at, number_in, power_at, hex_value, hex_byte, minute_or_0, date_at, AreBytes}
 
 -- what stands at a place: the first byte, and what comes after a text
 pub first : (s : List ℕ) (at c : ℕ) (rest : List ℕ) → drop at s ≡ c ∷ rest → u8_at s at ≡ c
@@ -190,7 +190,7 @@ module _ (s : List ℕ) (at j b : ℕ) (rest : List ℕ) (small : b < 256)
       let low = first s (at + 2 * j + 1) _ _ (past s (at + 2 * j) (hex_digit (b / 16) ∷ []) (hex_digit (b % 16) ∷ rest) there) in
       rw (high, low, digit-back (b / 16) (omega arith), digit-back (b % 16) (omega arith)) (omega arith)
 
-bytes-back : (s : List ℕ) (at j : ℕ) (bytes rest : List ℕ) → ((i : ℕ) → get_or bytes i 0 < 256)
+bytes-back : (s : List ℕ) (at j : ℕ) (bytes rest : List ℕ) → AreBytes bytes
     → drop (at + 2 * j) s ≡ hex_text bytes ++ rest → series (hex_byte s at) j (length bytes) ≡ bytes
 unfolding hex_text series
 bytes-back s at j [] rest small e = refl
@@ -200,7 +200,7 @@ bytes-back s at j (b ∷ bs) rest small e =
       bytes-back s at (j + 1) bs rest (λ i. small (suc i)) (byte-past s at j b (hex_text bs ++ rest) (small 0) e),
     )
 
-pub identifier-back : (s : List ℕ) (at : ℕ) (bytes rest : List ℕ) → length bytes ≡ 16 → ((i : ℕ) → get_or bytes i 0 < 256)
+pub identifier-back : (s : List ℕ) (at : ℕ) (bytes rest : List ℕ) → length bytes ≡ 16 → AreBytes bytes
     → drop at s ≡ hex_text bytes ++ rest → series (hex_byte s at) 0 16 ≡ bytes
 identifier-back s at bytes rest long small e =
     let z : at + 2 * 0 ≡ at = omega arith in
