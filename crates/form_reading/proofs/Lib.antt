@@ -6,3 +6,4 @@ pub mod PointLines
 pub mod Encoding
 pub mod Formed
 pub mod ReadBytes
+pub mod LinesBack
