@@ -7,3 +7,4 @@ pub mod Encoding
 pub mod Formed
 pub mod ReadBytes
 pub mod LinesBack
+pub mod Round

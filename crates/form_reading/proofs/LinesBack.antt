@@ -50,8 +50,8 @@ module _ (h : Head) (parts : ℕ → Part) (bits : ℕ → ℕ) (text : List ℕ
   resolution : StepRead (resolution_in f step_line) ps step f (point_lines h step ps ++ last)
   resolution = step_read f text step_line step h ps small head.after
 
-  text-line : drop text_line f ≡ last
-  text-line = text_there h parts bits h.part_count step points f text points_line resolution.after
+  text_found : drop text_line f ≡ last
+  text_found = text_there h parts bits h.part_count step points f text points_line resolution.after
 
   abbrev read : Lines
   read = record {
@@ -65,7 +65,7 @@ module _ (h : Head) (parts : ℕ → Part) (bits : ℕ → ℕ) (text : List ℕ
   unfolding lines_in
   lines-back =
       let count = counted h parts bits h.part_count step points f text points_line resolution.after in
-      let size : text_length_in f text_line ≡ h.text_length = length_read f text text_line (omega (arith, long, short)) text-line ∙ long in
+      let size : text_length_in f text_line ≡ h.text_length = length_read f text text_line (omega (arith, long, short)) text_found ∙ long in
       rw (count, size, head.head) refl
 
   pub report_back : report_of f ≡ encode_report h ps text
@@ -73,7 +73,7 @@ module _ (h : Head) (parts : ℕ → Part) (bits : ℕ → ℕ) (text : List ℕ
   report_back =
       let some : 1 ≤ h.part_count → 1 ≤ length ps = λ l. rw (series-length parts 0 h.part_count) l in
       let same_parts = parts_read h parts bits h.part_count step points f text points_line resolution.after (grid_of read) refl (λ l. resolution.value (some l)) in
-      let same_text : part f (text_line + 5) h.text_length ≡ text = rw long at (text_read f text text_line (omega (arith, long, short)) text-line) in
+      let same_text : part f (text_line + 5) h.text_length ≡ text = rw long at (text_read f text text_line (omega (arith, long, short)) text_found) in
       rw (lines-back, same_parts, same_text) refl
 
   pub step_back : 1 ≤ length ps → (lines_in f).step ≡ step
