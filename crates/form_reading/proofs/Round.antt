@@ -115,9 +115,9 @@ module _ (r : List ℕ) (bytes : AreBytes r) (has : has_form r ≡ true) where
       absurd (other steps))
       (λ t. refl)
 
-pub form-written : (form s : List ℕ) → form_read form ≡ Ok s → IsFormOf form s
+pub read_has_form : (form s : List ℕ) → form_read form ≡ Ok s → IsFormOf form s
 unfolding form_read
-form-written form s =
+read_has_form form s =
     pick-elim (λ (a : Result (List ℕ) FormError). a ≡ Ok s → IsFormOf form s) (is_form_of form (report_of form))
     (λ t e.
     let same : report_of form ≡ s = cc e in
@@ -133,8 +133,8 @@ refused form none =
     absurd (none (report_of form) (report-bytes form is.has) is))
     (λ t. refl)
 
-pub refused-only : (form : List ℕ) → form_read form ≡ no_report → (s : List ℕ) → AreBytes s → IsFormOf form s → ⊥
-refused-only form e s bytes is =
+pub only_refused : (form : List ℕ) → form_read form ≡ no_report → (s : List ℕ) → AreBytes s → IsFormOf form s → ⊥
+only_refused form e s bytes is =
     let read = ap form_read (sym is.same) ∙ read_back s bytes is.has in
     let wrong : no_report ≡ Ok s = sym e ∙ read in
     cc
