@@ -9,3 +9,6 @@ pub mod Formed
 pub mod Scanned
 pub mod Counted
 pub mod PartsPut
+pub mod ReadBytes
+pub mod LinesBack
+pub mod Round

@@ -1,12 +1,16 @@
 // The report of a form. A form is read by writing: the report that its lines give is written as a form again, and compared.
 #![tactic(auto)]
 
-ghost use Rattle.std.specs.Prelude.{◌≡◌, ◌+◌, ◌*◌, ◌-◌, ◌≤◌, ◌<◌, ◌%◌, ◌++◌};
+ghost use Rattle.std.specs.Prelude.{◌≡◌, ℕ, ◌+◌, ◌*◌, ◌-◌, ◌≤◌, ◌<◌, ◌%◌, ◌++◌, true, List, length, Ok};
 ghost use Rattle.fields.specs.Lists.{pick, part, series};
-ghost use Rattle.form_reading.specs.Reading.{is_digit, number_at, number_in, power_at, hex_value, hex_byte, date_at};
-ghost use Rattle.form_reading.specs.Reading.{code_lines_in, mark_lines_in, date_lines_in, resolution_in, is_point, point_in, point_at, point_count, text_length_in, lines_in, head_by, minute_of, grid_of, parts_in, report_by};
+ghost use Rattle.report.specs.Report.{head_of, parts_of};
 ghost use Rattle.report.specs.Encoded.{encode_head, encode_parts};
 ghost use Rattle.texts.specs.Texts.{Writes};
+ghost use Rattle.forms.specs.Form.{text_of, has_form, all_fall, resolution_of, form_at, form_of, IsFormOf};
+ghost use Rattle.form_reading.specs.Reading.{is_digit, number_at, number_in, power_at, hex_value, hex_byte, date_at};
+ghost use Rattle.form_reading.specs.Reading.{code_lines_in, mark_lines_in, date_lines_in, resolution_in, is_point, point_in, point_at, point_count};
+ghost use Rattle.form_reading.specs.Reading.{text_length_in, lines_in, head_by, minute_of, grid_of, parts_in, report_by};
+ghost use Rattle.form_reading.specs.Reading.{no_report, form_read, AreBytes};
 
 use quantities::{Minute, Period, SignedKilowatt};
 use report::{Direction, Head, MOST_PARTS, Mark, Operation, Part, RecordType};
@@ -423,3 +427,23 @@ fn put_report(report: &mut Text, form: &[u8], lines: Lines)
     report.put(b"TX");
     report.put(part(form, lines.text_at, usize::from(lines.head.text_length)));
 }
+
+// This does nothing: its contract is the claim, over all reports and all texts, that makes the reader's definition right whatever it is.
+// A report that has a form comes back from it; what is read has this form; two reports never share one; 24 is exactly for texts that
+// are the form of no report.
+pub fn forms_are_read_back()
+    ensures report { (s : List ℕ) → AreBytes s → has_form s ≡ true → form_read (form_of s) ≡ Ok s }
+    ensures form { (form s : List ℕ) → form_read form ≡ Ok s → IsFormOf form s }
+    ensures apart { (s t : List ℕ) → AreBytes s → AreBytes t → has_form s ≡ true → has_form t ≡ true → form_of s ≡ form_of t → s ≡ t }
+    ensures refused { (form : List ℕ) → ((s : List ℕ) → AreBytes s → IsFormOf form s → ⊥) → form_read form ≡ no_report }
+    ensures only { (form : List ℕ) → form_read form ≡ no_report → (s : List ℕ) → AreBytes s → IsFormOf form s → ⊥ }
+{}
+
+// This does nothing: its contract is that "a form at a finer one is 24": the lines at any other resolution on which all of a report with
+// parts falls are not read.
+#[tactic(auto, using(crate::proofs::Round::finer))]
+pub fn finer_forms_are_refused()
+    ensures { (s : List ℕ) (step : ℕ) → AreBytes s → has_form s ≡ true → 1 ≤ length (parts_of s) → step ≤ 1440
+        → all_fall (head_of s) (parts_of s) step ≡ true → (step ≡ resolution_of (head_of s) (parts_of s) → ⊥)
+        → form_read (form_at step (head_of s) (parts_of s) (text_of s)) ≡ no_report }
+{}
