@@ -44,7 +44,9 @@ covered : (s : List ℕ) → is_ok (question8 (head_of s) (parts_of s)) ≡ true
 unfolding question8 cover_by
 covered s =
     let none : is_ok (no_parts (parts_of s)) ≡ true → Covered s =
-    λ e. inl (sym (series-length (part_at s) 0 (part_count_of s)) ∙ eqb-true _ _ (sym (covered-is (eqb (length (parts_of s)) 0) 0) ∙ e)) in
+    λ e.
+    let empty = eqb-true _ _ (sym (covered-is (eqb (length (parts_of s)) 0) 0) ∙ e) in
+    inl (sym (series-length (part_at s) 0 (part_count_of s)) ∙ empty) in
     let P : Result Unit Broken → Type 0 = λ c. is_ok c ≡ true → Covered s in
     pick-elim P _ (λ t. none) (λ t. pick-elim P _ (λ u e. inr e) (λ u. none))
 

@@ -115,13 +115,15 @@ module _ (r : List ℕ) (bytes : AreBytes r) (has : has_form r ≡ true) where
       absurd (other steps))
       (λ t. refl)
 
-pub read_has_form : (form s : List ℕ) → form_read form ≡ Ok s → IsFormOf form s
+pub read_has_form : (form s : List ℕ) → form_read form ≡ Ok s → AreBytes s × IsFormOf form s
 unfolding form_read
 read_has_form form s =
-    pick-elim (λ (a : Result (List ℕ) FormError). a ≡ Ok s → IsFormOf form s) (is_form_of form (report_of form))
+    pick-elim (λ (a : Result (List ℕ) FormError). a ≡ Ok s → AreBytes s × IsFormOf form s) (is_form_of form (report_of form))
     (λ t e.
     let same : report_of form ≡ s = cc e in
-    rw same at (is-form form (report_of form) t))
+    let is = is-form form (report_of form) t in
+    let both : AreBytes (report_of form) × IsFormOf form (report_of form) = (report-bytes form is.has, is) in
+    rw same at both)
     (λ t e. absurd (cc e))
 
 pub refused : (form : List ℕ) → ((s : List ℕ) → AreBytes s → IsFormOf form s → ⊥) → form_read form ≡ no_report
@@ -139,7 +141,8 @@ only_refused form e s bytes is =
     let wrong : no_report ≡ Ok s = sym e ∙ read in
     cc
 
-pub apart : (s t : List ℕ) → AreBytes s → AreBytes t → has_form s ≡ true → has_form t ≡ true → form_of s ≡ form_of t → s ≡ t
+pub apart : (s t : List ℕ) → AreBytes s → AreBytes t → has_form s ≡ true → has_form t ≡ true → form_of s ≡ form_of t
+    → s ≡ t
 apart s t a b p q e =
     let same : Ok s ≡ Ok t = sym (read_back s a p) ∙ ap form_read e ∙ read_back t b q in
     cc
