@@ -1,7 +1,8 @@
 // Reports written as a form of lines.
 #![tactic(auto)]
 
-ghost use Rattle.std.specs.Prelude.{◌≡◌, true, List, ℕ, ◌+◌, ◌*◌, ◌≤◌, length, Ok};
+ghost use Rattle.std.specs.Prelude.{◌≡◌, true, List, ℕ, ◌+◌, ◌*◌, ◌≤◌, length, pos, Ok};
+ghost use Rattle.std.specs.Int.Signed.{le_z};
 ghost use Rattle.fields.specs.Lists.{all, series};
 ghost use Rattle.fields.specs.Ascii.{ascii};
 ghost use Rattle.quantities.specs.Quantities.{is_time};
@@ -153,9 +154,10 @@ fn all_fall(report: &[u8], h: Head, step: u32) -> bool
 }
 
 // The coarsest.
+#[tactic(auto, unfolding(crate::specs::Form::resolution_of, fields::specs::Lists::pick))]
 fn resolution(report: &[u8], h: Head) -> u32
     ensures value { result ≡ resolution_of h (parts_of report.now) }
-    ensures bounds { (1 ≤ result) × (result ≤ 1440) }
+    ensures bound { 1 ≤ result }
 {
     if all_fall(report, h, 1440) {
         1440
@@ -178,11 +180,18 @@ fn position(h: Head, step: u32, p: Part) -> u64
     u64::from(after_start(h, p.period.start) / step) + 1
 }
 
+// The test by itself: among calls that change a text its meaning is lost.
+fn at_least_zero(p: SignedKilowatt) -> bool
+    ensures { result ≡ le_z (pos 0) p.0 }
+{
+    0 <= p.0
+}
+
 fn put_signed(text: &mut Text, p: SignedKilowatt)
     ensures { Writes 11 text.old (signed_decimal p.0) text.new }
 {
     let size = quantities::wide(quantities::size_of(p));
-    if 0 <= p.0 {
+    if at_least_zero(p) {
         text.put_decimal(size);
     } else {
         text.put(b"-");
@@ -321,6 +330,7 @@ pub fn form_in<'a>(report: &[u8], scratch: &'a mut [u8; MOST_FORM]) -> Result<&'
 }
 
 // The form of a report at the start of a lent buffer, whose other bytes stay: its length, or 25, then 43.
+#[tactic(auto, unfolding(crate::specs::Lent::length_given, crate::specs::Lent::buffer_after))]
 pub fn write_form(report: &[u8], form: &mut [u8]) -> Result<usize, FormError>
     ensures value { result ≡ length_given (form_written report.now) form.old }
     ensures form_after { form.new ≡ buffer_after (form_written report.now) form.old }
