@@ -4,7 +4,7 @@ pub mod Bytes
 pub mod Covered
 pub mod PointLines
 pub mod Encoding
-pub mod Formed
+pub mod Reports
 pub mod ReadBytes
 pub mod LinesBack
 pub mod Round

@@ -17,7 +17,7 @@ use Rattle.report.specs.Encoded.{encode_head, encode_part, encode_parts, encode_
 use Rattle.report.proofs.Encoding.{named}
 use Rattle.forms.specs.Form.{text_of, printable, has_form}
 use Rattle.form_reading.specs.Reading.{hex_byte, code_lines_in, mark_lines_in, point_count, parts_in, lines_in, grid_of, report_by, report_of, AreBytes}
-use Rattle.form_reading.proofs.Formed.{formed}
+use Rattle.form_reading.proofs.Reports.{printed}
 use Rattle.form_reading.proofs.Bytes.{no_bytes, byte_first, bytes_append, number_bytes, series_bytes, printed_bytes}
 
 -- the one-byte fields of a head
@@ -74,7 +74,7 @@ module _ (h : Head) (f : ℕ → ℕ) (ps : List Part) (text : List ℕ) where
 
   encoded-bytes : Codes h → ((j : ℕ) → f j < 256) → AreBytes text → AreBytes encoded
   unfolding encode_report encode_head
-  encoded-bytes codes identifier printed =
+  encoded-bytes codes identifier text_bytes =
       search (bytes_append, byte_first, no_bytes, number_bytes, series_bytes, parts-bytes) depth 20
 
 part-most : (s : List ℕ) (at n : ℕ) → length (part s at n) ≤ n
@@ -118,5 +118,5 @@ module _ (form : List ℕ) where
       let most : length text ≤ h.text_length = part-most form (lines_in form).text_at h.text_length in
       let there = text-there h f ps text counted (omega (arith, few)) most (omega (arith, short)) in
       let same_text : text_of (report_of form) ≡ text = ap text_of same ∙ there in
-      let printed = sym (ap (all printable) same_text) ∙ (formed (report_of form) has).printed in
-      rw same (encoded-bytes h f ps text codes (λ j. omega arith) (printed_bytes text printed))
+      let ascii = sym (ap (all printable) same_text) ∙ printed (report_of form) has in
+      rw same (encoded-bytes h f ps text codes (λ j. omega arith) (printed_bytes text ascii))
