@@ -3,9 +3,8 @@ pub mod Heads
 pub mod Bytes
 pub mod Covered
 pub mod PointLines
-pub mod FormLines
 pub mod Encoding
-pub mod Formed
+pub mod Reports
 pub mod Scanned
 pub mod Counted
 pub mod PartsPut
