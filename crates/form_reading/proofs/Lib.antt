@@ -1,3 +1,4 @@
 pub mod Scanned
 pub mod Counted
 pub mod PartsPut
+pub mod FormRead

@@ -2,11 +2,11 @@
 #![tactic(auto)]
 
 ghost use Rattle.std.specs.Prelude.{◌≡◌, ◌+◌, ◌*◌, ◌-◌, ◌≤◌, ◌<◌, ◌%◌, ◌++◌};
-ghost use Rattle.fields.specs.Lists.{pick, part, series};
+ghost use Rattle.fields.specs.Lists.{pick, part, series, same_list};
 ghost use Rattle.form_reading.specs.Reading.{is_digit, number_at, number_in, power_at, hex_value, hex_byte, date_at};
-ghost use Rattle.form_reading.specs.Reading.{code_lines_in, mark_lines_in, date_lines_in, resolution_in, is_point, point_in, point_at, point_count, text_length_in, lines_in, head_by, minute_of, grid_of, parts_in, report_by};
+ghost use Rattle.form_reading.specs.Reading.{code_lines_in, mark_lines_in, date_lines_in, resolution_in, is_point, point_in, point_at, point_count, text_length_in, lines_in, head_by, minute_of, grid_of, parts_in, report_by, report_of};
 ghost use Rattle.report.specs.Encoded.{encode_head, encode_parts};
-ghost use Rattle.texts.specs.Texts.{Writes};
+ghost use Rattle.texts.specs.Texts.{Writes, Puts};
 
 use quantities::{Minute, Period, SignedKilowatt};
 use report::{Direction, Head, MOST_PARTS, Mark, Operation, Part, RecordType};
@@ -422,4 +422,20 @@ fn put_report(report: &mut Text, form: &[u8], lines: Lines)
     put_parts(report, form, lines);
     report.put(b"TX");
     report.put(part(form, lines.text_at, usize::from(lines.head.text_length)));
+}
+
+// The report that the form's lines say, at the start of the bytes; its length.
+fn put_report_of(form: &[u8], bytes: &mut [u8]) -> usize
+    ensures { Puts 1850 bytes.old (report_of form.now) bytes.new result }
+{
+    let mut report = Text::new(bytes);
+    put_report(&mut report, form, lines_in(form));
+    report.end()
+}
+
+#[tactic(auto, using(crate::proofs::FormRead::same_bytes))]
+fn same_bytes(a: &[u8], b: &[u8]) -> bool
+    ensures { result ≡ same_list a.now b.now }
+{
+    a == b
 }
