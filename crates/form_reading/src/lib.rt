@@ -4,10 +4,12 @@
 ghost use Rattle.std.specs.Prelude.{◌≡◌, ◌+◌, ◌*◌, ◌-◌, ◌≤◌, ◌<◌, ◌%◌, ◌++◌};
 ghost use Rattle.fields.specs.Lists.{pick, part, series, same_list};
 ghost use Rattle.form_reading.specs.Reading.{is_digit, number_at, number_in, power_at, hex_value, hex_byte, date_at};
-ghost use Rattle.form_reading.specs.Reading.{code_lines_in, mark_lines_in, date_lines_in, resolution_in, is_point, point_in, point_at, point_count, text_length_in, lines_in, head_by, minute_of, grid_of, parts_in, report_by, report_of};
+ghost use Rattle.form_reading.specs.Reading.{code_lines_in, mark_lines_in, date_lines_in, resolution_in, is_point, point_in, point_at, point_count, text_length_in, lines_in, head_by, minute_of, grid_of, parts_in, report_by, report_of, is_form_of, form_read};
 ghost use Rattle.report.specs.Encoded.{encode_head, encode_parts};
+ghost use Rattle.forms.specs.Lent.{length_given, buffer_after};
 ghost use Rattle.texts.specs.Texts.{Writes, Puts};
 
+use forms::{FormError, MOST_FORM};
 use quantities::{Minute, Period, SignedKilowatt};
 use report::{Direction, Head, MOST_PARTS, Mark, Operation, Part, RecordType};
 use texts::Text;
@@ -438,4 +440,29 @@ fn same_bytes(a: &[u8], b: &[u8]) -> bool
     ensures { result ≡ same_list a.now b.now }
 {
     a == b
+}
+
+// The report has this form.
+fn is_form_of(form: &[u8], report: &[u8]) -> bool
+    ensures { result ≡ is_form_of form.now report.now }
+{
+    let mut scratch = [0u8; MOST_FORM];
+    match forms::form_in(report, &mut scratch) {
+        Ok(text) => same_bytes(text, form),
+        Err(_) => false,
+    }
+}
+
+// The report of a form at the start of a lent buffer, whose other bytes stay: its length, or 24, then 43.
+pub fn read_form(form: &[u8], report: &mut [u8]) -> Result<usize, FormError>
+    ensures value { result ≡ length_given (form_read form.now) report.old }
+    ensures report_after { report.new ≡ buffer_after (form_read form.now) report.old }
+{
+    let mut scratch = [0u8; 1850];
+    let end = put_report_of(form, &mut scratch);
+    let found = &scratch[..end];
+    if !is_form_of(form, found) {
+        return Err(FormError::NotAForm);
+    }
+    forms::lay(found, report)
 }
