@@ -14,6 +14,9 @@ use quantities::{Minute, Period, SignedKilowatt};
 use report::{Direction, Head, MOST_PARTS, Mark, Operation, Part, RecordType};
 use texts::Text;
 
+// No report is longer.
+const MOST_REPORT: usize = 1850;
+
 // A number that was read, and the place after it.
 #[derive(Clone, Copy)]
 pub struct Numeral {
@@ -453,14 +456,21 @@ fn is_form_of(form: &[u8], report: &[u8]) -> bool
     }
 }
 
+// The report that the form's lines say, at the start of the scratch.
+fn report_in<'a>(form: &[u8], scratch: &'a mut [u8; MOST_REPORT]) -> &'a [u8]
+    ensures { result.now ≡ report_of form.now }
+{
+    let end = put_report_of(form, scratch);
+    &scratch[..end]
+}
+
 // The report of a form at the start of a lent buffer, whose other bytes stay: its length, or 24, then 43.
 pub fn read_form(form: &[u8], report: &mut [u8]) -> Result<usize, FormError>
     ensures value { result ≡ length_given (form_read form.now) report.old }
     ensures report_after { report.new ≡ buffer_after (form_read form.now) report.old }
 {
-    let mut scratch = [0u8; 1850];
-    let end = put_report_of(form, &mut scratch);
-    let found = &scratch[..end];
+    let mut scratch = [0u8; MOST_REPORT];
+    let found = report_in(form, &mut scratch);
     if !is_form_of(form, found) {
         return Err(FormError::NotAForm);
     }
