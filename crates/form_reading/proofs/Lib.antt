@@ -8,6 +8,7 @@ pub mod Reports
 pub mod Scanned
 pub mod Counted
 pub mod PartsPut
+pub mod FormRead
 pub mod ReadBytes
 pub mod LinesBack
 pub mod Round
