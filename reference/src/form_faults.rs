@@ -3,9 +3,8 @@
 
 use crate::calendar::{date, read_date};
 use crate::compose::{PartFields, ReportFields};
-use crate::cover_faults::cover_fault;
 use crate::fields::{u16_at, u32_at};
-use crate::questions::question_4_fields_in_range;
+use crate::quantities::LAST_MINUTE;
 use crate::record::MRID_SIZE;
 use crate::report::{head, question_2_report_whole, WholeReport};
 use std::fmt::Write;
@@ -40,14 +39,17 @@ const RANGES: [&str; 9] = [
     "24: qualification",
     "24: ordinal",
 ];
-const QUALIFICATION: &str = RANGES[7];
 const IDENTIFIER: &str = "24: identifier";
 const CAPITAL: &str = "24: identifier with a capital";
 const DATES: [&str; 3] = ["24: stamp", "24: start", "24: end"];
-const EVENT_OPERATION: &str = "24: event that is no creation";
-const EVENT_IDENTIFIER: &str = "24: event with an identifier";
-const EVENT_END_MARK: &str = "24: event with end mark 2";
-const WITHDRAWAL_END_MARK: &str = "24: withdrawal with end mark 2";
+/// What question 4 asks of several fields at once.
+const TOGETHER: [&str; 5] = [
+    RANGES[7],
+    "24: event that is no creation",
+    "24: event with an identifier",
+    "24: event with end mark 2",
+    "24: withdrawal with end mark 2",
+];
 const NO_POINTS: &str = "24: no points";
 const POINTS: &str = "24: points where none may be";
 const MANY_POINTS: &str = "24: more than 100 points";
@@ -63,11 +65,29 @@ const NOT_PRINTABLE: &str = "24: text not printable";
 const TOO_LONG: &str = "24: text too long";
 
 const NOT_WHOLE: &str = "25: not whole";
-const QUESTION_4: &str = "25: question 4";
-const QUESTION_8: &str = "25: question 8";
-const UNIT: &str = "25: unit";
-const OWNER: &str = "25: owner";
-const TEXT: &str = "25: text not printable";
+const RANGES_25: [&str; 9] = [
+    "25: unit",
+    "25: owner",
+    "25: type",
+    "25: operation",
+    "25: direction",
+    "25: start mark",
+    "25: end mark",
+    "25: qualification",
+    "25: ordinal",
+];
+const DATES_25: [&str; 3] = ["25: stamp", "25: start", "25: end"];
+const TOGETHER_25: [&str; 5] = [
+    RANGES_25[7],
+    "25: event that is no creation",
+    "25: event with an identifier",
+    "25: event with end mark 2",
+    "25: withdrawal with end mark 2",
+];
+const NO_PARTS: &str = "25: no parts";
+const PARTS: &str = "25: parts where none may be";
+const COVER: &str = "25: parts that don't cover the period";
+const TEXT_25: &str = "25: text not printable";
 
 /// What becomes of a text or a report.
 pub struct Finding {
@@ -85,44 +105,127 @@ pub fn kinds() -> Vec<&'static str> {
     kinds.extend(RANGES);
     kinds.extend([IDENTIFIER, CAPITAL]);
     kinds.extend(DATES);
-    kinds.extend([EVENT_OPERATION, EVENT_IDENTIFIER, EVENT_END_MARK]);
-    kinds.extend([WITHDRAWAL_END_MARK, NO_POINTS, POINTS, MANY_POINTS, PERIOD]);
-    kinds.extend([POWER, RESOLUTION, TOO_COARSE, TOO_FINE, FIRST_POSITION]);
-    kinds.extend([RISING, PAST_END, NOT_PRINTABLE, TOO_LONG]);
-    kinds.extend([NOT_WHOLE, QUESTION_4, QUESTION_8, UNIT, OWNER, TEXT]);
+    kinds.extend(&TOGETHER[1..]);
+    kinds.extend([NO_POINTS, POINTS, MANY_POINTS, PERIOD, POWER]);
+    kinds.extend([RESOLUTION, TOO_COARSE, TOO_FINE, FIRST_POSITION]);
+    kinds.extend([RISING, PAST_END, NOT_PRINTABLE, TOO_LONG, NOT_WHOLE]);
+    kinds.extend(RANGES_25);
+    kinds.extend(DATES_25);
+    kinds.extend(&TOGETHER_25[1..]);
+    kinds.extend([NO_PARTS, PARTS, COVER, TEXT_25]);
     kinds
+}
+
+/// The finding of faults found, the whole of it given where there is none.
+fn finding(
+    faults: &[&'static str],
+    [none, several]: [&'static str; 2],
+    bytes: impl FnOnce() -> Vec<u8>,
+) -> Finding {
+    match faults {
+        [] => Finding {
+            kind: none,
+            bytes: Some(bytes()),
+        },
+        [fault] => Finding {
+            kind: fault,
+            bytes: None,
+        },
+        _ => Finding {
+            kind: several,
+            bytes: None,
+        },
+    }
+}
+
+/// Unit, owner, six codes and ordinal, where they are in their own ranges.
+type Numbers = [Option<i128>; 9];
+
+const LIMITS: [RangeInclusive<i128>; 9] = [
+    1..=64,
+    1..=999,
+    1..=6,
+    1..=3,
+    1..=3,
+    1..=2,
+    1..=2,
+    0..=7,
+    1..=9_999,
+];
+
+/// What question 4 asks of several fields at once, and whether it says no: by type the
+/// qualification; of an event operation, identifier and end mark; of a withdrawal the end mark.
+fn wrong_together(numbers: Numbers, mrid: Option<[u8; MRID_SIZE]>) -> [bool; 5] {
+    let [_, _, record_type, operation, _, _, end_mark, qualification, _] = numbers;
+    let qualifications = match record_type {
+        Some(1) => 1..=7,
+        Some(5) => 1..=5,
+        Some(6) => 1..=6,
+        Some(_) => 0..=0,
+        None => 0..=7,
+    };
+    let (event, ended) = (record_type == Some(6), end_mark == Some(2));
+    [
+        qualification.is_some_and(|code| !qualifications.contains(&code)),
+        event && operation.is_some_and(|code| code != 1),
+        event && mrid.is_some_and(|mrid| mrid != [0; MRID_SIZE]),
+        event && ended,
+        !event && operation == Some(3) && ended,
+    ]
+}
+
+/// Whether question 8 asks for parts, if the codes say so.
+fn parts_needed(numbers: Numbers) -> Option<bool> {
+    let (record_type, operation) = (numbers[2]?, numbers[3]?);
+    Some((2..=4).contains(&record_type) && operation != 3)
 }
 
 /// Why a report has no form, or its form.
 pub fn of_report(report: &[u8]) -> Finding {
     let Some(whole) = question_2_report_whole(report) else {
-        return Finding {
-            kind: NOT_WHOLE,
-            bytes: None,
-        };
+        return finding(&[NOT_WHOLE], [WRITTEN, SEVERAL_25], Vec::new);
     };
+    let two = |at| i128::from(u16_at(report, at));
+    let one = |at: usize| i128::from(report[at]);
+    let mut numbers = [two(head::UNIT), two(head::OWNER), 0, 0, 0, 0, 0, 0, 0].map(Some);
+    for (number, at) in numbers[2..8].iter_mut().zip(head::TYPE..) {
+        *number = Some(one(at));
+    }
+    numbers[8] = Some(two(head::REVISION));
+    let mut faults = Vec::new();
+    for ((number, limits), fault) in numbers.iter_mut().zip(LIMITS).zip(RANGES_25) {
+        *number = number.filter(|number| limits.contains(number));
+        faults.extend(number.is_none().then_some(fault));
+    }
+    let times = [head::STAMP, head::START, head::END].map(|at| u32_at(report, at));
+    for (time, fault) in times.into_iter().zip(DATES_25) {
+        faults.extend((time > LAST_MINUTE.0).then_some(fault));
+    }
+    let mrid = report[head::MRID..head::STAMP].try_into().ok();
+    for (wrong, fault) in wrong_together(numbers, mrid).into_iter().zip(TOGETHER_25) {
+        faults.extend(wrong.then_some(fault));
+    }
+    faults.extend(parts_needed(numbers).and_then(|needed| parts_fault(&whole, needed)));
     let printable = |byte: &u8| byte.is_ascii_graphic() || *byte == b' ';
-    let reasons = [
-        (QUESTION_4, question_4_fields_in_range(whole).is_none()),
-        (QUESTION_8, cover_fault(&whole).is_some()),
-        (UNIT, whole.unit() < 1 || whole.unit() > 64),
-        (OWNER, whole.owner() < 1 || whole.owner() > 999),
-        (TEXT, !whole.text().iter().all(printable)),
-    ];
-    let mut wrong = reasons.into_iter().filter(|(_, wrong)| *wrong);
-    match (wrong.next(), wrong.next()) {
-        (None, _) => Finding {
-            kind: WRITTEN,
-            bytes: Some(form_of(&whole)),
-        },
-        (Some((reason, _)), None) => Finding {
-            kind: reason,
-            bytes: None,
-        },
-        _ => Finding {
-            kind: SEVERAL_25,
-            bytes: None,
-        },
+    faults.extend((!whole.text().iter().all(printable)).then_some(TEXT_25));
+    finding(&faults, [WRITTEN, SEVERAL_25], || form_of(&whole))
+}
+
+/// What question 8 finds, part by part. A part's time out of range is past the end as well.
+fn parts_fault(report: &WholeReport, needed: bool) -> Option<&'static str> {
+    let parts: Vec<_> = report.parts().collect();
+    if !needed {
+        return (!parts.is_empty()).then_some(PARTS);
+    }
+    let [mut due, end] = [head::START, head::END].map(|at| u32_at(report.bytes(), at));
+    let covers = parts.iter().all(|part| {
+        let fits = part.start == due && part.start < part.end && part.end <= end;
+        due = part.end;
+        fits
+    });
+    match parts.is_empty() {
+        true => Some(NO_PARTS),
+        false => (!covers || due != end).then_some(COVER),
     }
 }
 
@@ -188,21 +291,11 @@ pub fn of_form(form: &[u8]) -> Finding {
     let lines = lines(form, &mut faults);
     if names_are_right(&lines, &mut faults) {
         let report = Values::new(&lines, &mut faults).report();
-        if faults.is_empty() {
-            return Finding {
-                kind: READ,
-                bytes: Some(report.bytes()),
-            };
-        }
+        faults.dedup();
+        return finding(&faults, [READ, SEVERAL_24], || report.bytes());
     }
     faults.dedup();
-    Finding {
-        kind: match faults[..] {
-            [fault] => fault,
-            _ => SEVERAL_24,
-        },
-        bytes: None,
-    }
+    finding(&faults, [READ, SEVERAL_24], Vec::new)
 }
 
 /// A name and a value.
@@ -348,19 +441,8 @@ impl<'a> Values<'a> {
             .into_iter()
             .chain(CODES)
             .chain(["ordinal"]);
-        let limits = [
-            1..=64,
-            1..=999,
-            1..=6,
-            1..=3,
-            1..=3,
-            1..=2,
-            1..=2,
-            0..=7,
-            1..=9_999,
-        ];
         let mut numbers = [None; 9];
-        for (index, (name, range)) in names.zip(limits).enumerate() {
+        for (index, (name, range)) in names.zip(LIMITS).enumerate() {
             numbers[index] = self.number(self.value(name), range, RANGES[index]);
         }
         let mrid = self.mrid();
@@ -368,7 +450,9 @@ impl<'a> Values<'a> {
         for (index, name) in TIMES.into_iter().enumerate() {
             times[index] = self.date(name, DATES[index]);
         }
-        self.check_codes(numbers, mrid);
+        for (wrong, fault) in wrong_together(numbers, mrid).into_iter().zip(TOGETHER) {
+            self.fault(fault, wrong);
+        }
         let parts = self.parts(numbers, times);
         let text = self.value("text");
         let printable = text.iter().all(|&byte| (0x20..0x7F).contains(&byte));
@@ -397,39 +481,13 @@ impl<'a> Values<'a> {
         }
     }
 
-    /// What question 4 asks of several fields at once.
-    fn check_codes(&mut self, numbers: [Option<i128>; 9], mrid: Option<[u8; MRID_SIZE]>) {
-        let [_, _, record_type, operation, _, _, end_mark, qualification, _] = numbers;
-        let qualifications = match record_type {
-            Some(1) => 1..=7,
-            Some(5) => 1..=5,
-            Some(6) => 1..=6,
-            Some(_) => 0..=0,
-            None => 0..=7,
-        };
-        let wrong = qualification.is_some_and(|code| !qualifications.contains(&code));
-        self.fault(QUALIFICATION, wrong);
-        let (event, ended) = (record_type == Some(6), end_mark == Some(2));
-        self.fault(
-            EVENT_OPERATION,
-            event && operation.is_some_and(|code| code != 1),
-        );
-        self.fault(
-            EVENT_IDENTIFIER,
-            event && mrid.is_some_and(|mrid| mrid != [0; 16]),
-        );
-        self.fault(EVENT_END_MARK, event && ended);
-        self.fault(WITHDRAWAL_END_MARK, !event && operation == Some(3) && ended);
-    }
-
-    fn parts(&mut self, numbers: [Option<i128>; 9], times: [Option<u32>; 3]) -> Vec<PartFields> {
+    fn parts(&mut self, numbers: Numbers, times: [Option<u32>; 3]) -> Vec<PartFields> {
         let lines = self.lines.iter();
         let points: Vec<&[u8]> = lines
             .filter(|(name, _)| *name == b"point")
             .map(|line| line.1)
             .collect();
-        if let (Some(record_type), Some(operation)) = (numbers[2], numbers[3]) {
-            let needed = (2..=4).contains(&record_type) && operation != 3;
+        if let Some(needed) = parts_needed(numbers) {
             self.fault(NO_POINTS, needed && points.is_empty());
             self.fault(POINTS, !needed && !points.is_empty());
         }

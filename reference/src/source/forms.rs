@@ -84,10 +84,12 @@ fn put_parts(random: &mut Random, fields: &mut ReportFields) {
         place += resolution * random.between(1..=most);
         ends.push(place);
     }
-    // A long last part gives positions of few digits and an end far off.
+    // Now and then one part is long, and the positions behind it are of many digits.
     let rest = LAST_MINUTE.0.saturating_sub(place) / resolution;
     if random.percent(10) && rest > 0 {
-        *ends.last_mut().unwrap_or(&mut place) += resolution * random.between(1..=rest);
+        let longer = resolution * random.between(1..=rest);
+        let from = random.below(count as u32) as usize;
+        ends[from..].iter_mut().for_each(|end| *end += longer);
     }
     let start = match ends.last() {
         Some(length) => on_edge(random, 0, LAST_MINUTE.0.saturating_sub(*length)),
@@ -149,7 +151,10 @@ pub fn report_without_form(random: &mut Random) -> Vec<u8> {
         2 => spoil_code(random, &mut fields),
         3 => fields.revision = random.pick(&[0, 10_000, u16::MAX]),
         4 => spoil_time(random, &mut fields),
-        5 => fields.mrid[random.below(16) as usize] = 1,
+        5 => match random.percent(80) {
+            true => fields.mrid[random.below(16) as usize] = 1,
+            false => fields.operation = random.pick(&[2, 3]),
+        },
         6 => fields.end_mark = random.pick(&[0, 2, 3, 17, 255]),
         7 | 8 => spoil_parts(random, &mut fields),
         9 | 10 => spoil_text(random, &mut fields),
