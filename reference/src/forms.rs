@@ -87,6 +87,29 @@ fn printable(text: &[u8]) -> bool {
         .fold(true, |all, &byte| all & matches!(byte, b' '..=b'~'))
 }
 
+/// At least as long as every form, and so as every report.
+const LONGEST: usize = HEAD_ROOM + POINTS_ROOM + line::TEXT.len() + MAX_TEXT + 1;
+
+/// The form of a report, or 25.
+pub fn form_of(report: &[u8]) -> Result<Vec<u8>, u8> {
+    converted(write_form, report)
+}
+
+/// The report of a form, or 24.
+pub fn report_of(form: &[u8]) -> Result<Vec<u8>, u8> {
+    converted(read_form, form)
+}
+
+fn converted(
+    convert: fn(&[u8], &mut [u8]) -> Result<usize, u8>,
+    input: &[u8],
+) -> Result<Vec<u8>, u8> {
+    let mut output = vec![0; LONGEST];
+    let length = convert(input, &mut output)?;
+    output.truncate(length);
+    Ok(output)
+}
+
 /// Writes the form of a report into the first bytes of a buffer: its length, or 25, or 43.
 pub fn write_form(report: &[u8], form: &mut [u8]) -> Result<usize, u8> {
     let whole = question_2_report_whole(report).ok_or(WITHOUT_FORM)?;

@@ -329,7 +329,7 @@ fn other_lines(line: &[u8]) -> Vec<Vec<u8>> {
 
 /// A value spelled otherwise, and values on the edges of all the fields.
 fn other_values(value: &[u8]) -> Vec<Vec<u8>> {
-    const OTHERS: [&str; 57] = [
+    const OTHERS: [&str; 60] = [
         "",
         "0",
         "1",
@@ -350,6 +350,9 @@ fn other_values(value: &[u8]) -> Vec<Vec<u8>> {
         "65",
         "100",
         "101",
+        "256",
+        "257",
+        "258",
         "999",
         "1000",
         "1440",
