@@ -70,28 +70,45 @@ pub put-line : {k m : ℕ} {a b d e : Tail} {name value : List ℕ} → Prepends
 unfolding line
 put-line p q r = ahead p (ahead q r)
 
--- a number, after i of its digits: those that are left stand before them
-pub record Counting (a : Tail) (n i left : ℕ) (b : Tail) : Type 0 where
+-- the first number of so many digits and one more
+unfoldable pub tens : ℕ → ℕ
+tens zero = 1
+tens (suc n) = 10 * tens n
+
+-- a number, of which `left` is still to be put, with places for so many digits and one
+pub record Counting (a : Tail) (n left : ℕ) (b : Tail) : Type 0 where
   pub same_reference : b.bytes.ghost_name ≡ a.bytes.ghost_name
   pub size : length b.bytes.now ≡ length a.bytes.now
-  pub start : b.start + i ≡ a.start
-  pub text : decimal_before (20 - i) left (drop b.start b.bytes.now) ≡ decimal_before 20 n (drop a.start a.bytes.now)
+  pub places : ℕ
+  pub most : places ≤ 19
+  pub start : b.start + 19 ≡ a.start + places
+  pub few : left < tens (suc places)
+  pub text : decimal_before (suc places) left (drop b.start b.bytes.now) ≡ decimal_before 20 n (drop a.start a.bytes.now)
 
-pub count-none : {a : Tail} {n : ℕ} → Counting a n 0 n a
-count-none = record { same_reference = refl; size = refl; start = omega arith; text = refl }
+pub count-none : {a : Tail} {n : ℕ} → n < 18446744073709551616 → Counting a n n a
+unfolding tens
+count-none l = record { same_reference = refl; size = refl; places = 19; most = omega arith; start = refl; few = omega arith; text = refl }
 
-pub count-more : {a b d : Tail} {n i left v : ℕ} → i < 20 → 10 ≤ left → v ≡ digit left → Counting a n i left b
-    → Prepends 1 b (v ∷ []) d → Counting a n (i + 1) (left / 10) d
-unfolding decimal_before pick
-count-more {i = i} {left = left} l more e c p =
-    let places : 20 - i ≡ suc (20 - (i + 1)) = omega arith in
-    let text = rw (places, le-ltb left 10 more) at c.text in
+digit-next : {a b d : Tail} {n left v : ℕ} (places : ℕ) → 10 ≤ left → v ≡ digit left → Counting a n left b → Prepends 1 b (v ∷ []) d
+    → b.start + 19 ≡ a.start + places → places ≤ 19 → left < tens (suc places)
+    → decimal_before (suc places) left (drop b.start b.bytes.now) ≡ decimal_before 20 n (drop a.start a.bytes.now)
+    → Counting a n (left / 10) d
+unfolding decimal_before pick tens
+digit-next zero more e c p at most few text = absurd (omega arith)
+digit-next {left = left} (suc places) more e c p at most few text =
     record {
       same_reference = p.same_reference ∙ c.same_reference;
       size = p.size ∙ c.size;
-      start = omega (arith, p.start, c.start);
-      text = rw (p.text, e) text;
+      places = places;
+      most = omega arith;
+      start = omega (arith, p.start, at);
+      few = omega arith;
+      text = rw (p.text, e) (rw (le-ltb left 10 more) at text);
     }
+
+pub count-more : {a b d : Tail} {n left v : ℕ} → 10 ≤ left → v ≡ digit left → Counting a n left b → Prepends 1 b (v ∷ []) d
+    → Counting a n (left / 10) d
+count-more more e c p = digit-next c.places more e c p c.start c.most c.few c.text
 
 module _ {a b : Tail} (n : ℕ) (inside : a.start ≤ length a.bytes.now) (same : b.bytes.ghost_name ≡ a.bytes.ghost_name)
     (size : length b.bytes.now ≡ length a.bytes.now) (most : b.start ≤ a.start)
@@ -108,25 +125,14 @@ module _ {a b : Tail} (n : ℕ) (inside : a.start ≤ length a.bytes.now) (same 
         upper_bound = decimal-length 20 n [];
       }
 
-pub count-ends : {a b d : Tail} (n : ℕ) {i left v : ℕ} → a.start ≤ length a.bytes.now → i < 20 → left < 10 → v ≡ digit left
-    → Counting a n i left b → Prepends 1 b (v ∷ []) d → Prepends 20 a (decimal n) d
+pub count-ends : {a b d : Tail} (n : ℕ) {left v : ℕ} → a.start ≤ length a.bytes.now → left < 10 → v ≡ digit left
+    → Counting a n left b → Prepends 1 b (v ∷ []) d → Prepends 20 a (decimal n) d
 unfolding decimal_before pick
-count-ends n {i = i} {left = left} inside l less e c p =
-    let places : 20 - i ≡ suc (20 - (i + 1)) = omega arith in
-    let text = rw (places, lt-ltb left 10 less) at c.text in
-    counted n inside (p.same_reference ∙ c.same_reference) (p.size ∙ c.size) (omega (arith, p.start, c.start)) (p.text ∙ rw e text)
-
-pub count-all : {a b : Tail} (n : ℕ) {i left : ℕ} → a.start ≤ length a.bytes.now → 20 ≤ i → Counting a n i left b → Prepends 20 a (decimal n) b
-unfolding decimal_before
-count-all n {i = i} inside l c =
-    let none : 20 - i ≡ 0 = omega arith in
-    counted n inside c.same_reference c.size (omega (arith, c.start)) (rw none at c.text)
+count-ends n {left = left} inside less e c p =
+    let text = rw (lt-ltb left 10 less) at c.text in
+    counted n inside (p.same_reference ∙ c.same_reference) (p.size ∙ c.size) (omega (arith, p.start, c.start, c.most)) (p.text ∙ rw e text)
 
 -- ten digits hold each number of 32 bits
-tens : ℕ → ℕ
-tens zero = 1
-tens (suc n) = 10 * tens n
-
 digits-few : (k places n : ℕ) (text : List ℕ) → n < tens (suc k) → length (decimal_before places n text) ≤ suc k + length text
 unfolding decimal_before tens pick
 digits-few k zero n text l = omega arith

@@ -161,19 +161,16 @@ impl<'a> Tail<'a> {
         self.start = start;
     }
 
-    // Twenty digits hold every number.
     fn put_decimal(&mut self, n: u64)
         requires { has_place 20 self.old }
         ensures { Prepends 20 self.old (decimal n) self.new }
     {
         let mut left = n;
-        for i in 0..20usize {
+        while left >= 10 {
             self.put_byte(texts::digit(left));
-            if left < 10 {
-                return;
-            }
             left = left / 10;
         }
+        self.put_byte(texts::digit(left));
     }
 
     fn put_number_line(&mut self, name: &[u8], n: u64)
