@@ -6,10 +6,10 @@ use mathlib.Core.List.{List}
 use native.Mathlib.Omega.{arith}
 use lib.ListN.{length, length-take, take, drop}
 use lib.Seq.{take-length}
-use Rattle.fields.specs.Lists.{part, every, and_each, all, series}
+use Rattle.fields.specs.Lists.{every, and_each, all, series}
 use Rattle.fields.specs.Fields.{u8_at}
 use Rattle.fields.proofs.Bools.{every_true}
-use Rattle.fields.proofs.Slices.{part-put, part-lent}
+use Rattle.fields.proofs.Slices.{part-lent}
 use Rattle.fields.proofs.Rests.{series-taken}
 use Rattle.quantities.specs.Quantities.{is_time}
 use Rattle.report.specs.Report.{head_of, parts_of, text_length_of, whole}
@@ -17,7 +17,6 @@ use Rattle.report.specs.Remark.{text_start}
 use Rattle.report.proofs.Sizes.{Sized, whole-sized}
 use Rattle.rules.specs.Records.{fields_in_range}
 use Rattle.rules.specs.Questions.{record_by, question4, question8}
-use Rattle.texts.specs.Texts.{Puts}
 use Rattle.report.specs.declared.Head.{Head}
 use Rattle.rules.specs.Codes.{between}
 use Rattle.std.specs.Prelude.{is_ok}
@@ -67,9 +66,3 @@ module _ (s : List ℕ) {start t : ℕ} (from : start ≡ text_start s) (size : 
   text-short w =
       let z = whole-sized s w in
       omega (arith, length-take (start + t - start) (drop start s))
-
--- a form that was put at the start of a buffer that has room
-pub put-front : {m n : ℕ} {here x there : List ℕ} → Puts m here x there n → m ≤ length here → take n there ≡ x
-unfolding part
-put-front {here = here} {x = x} p room =
-    rw (p.text_after, p.value) (part-put here 0 x (omega (arith, p.upper_bound, p.value)))

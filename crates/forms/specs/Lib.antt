@@ -1,4 +1,5 @@
 pub mod Values
 pub mod Form
+pub mod Tails
 pub mod Lent
 pub mod Refusals

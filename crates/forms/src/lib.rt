@@ -1,7 +1,7 @@
 // Reports written as a form of lines.
 #![tactic(auto)]
 
-ghost use Rattle.std.specs.Prelude.{◌≡◌, true, List, ℕ, ◌+◌, ◌*◌, ◌≤◌, length, pos, Ok, IfOk};
+ghost use Rattle.std.specs.Prelude.{◌≡◌, true, List, [], ◌∷◌, ℕ, ◌+◌, ◌*◌, ◌≤◌, length, drop, pos, Ok, IfOk};
 ghost use Rattle.std.specs.Int.Signed.{le_z};
 ghost use Rattle.fields.specs.Lists.{all, series};
 ghost use Rattle.fields.specs.Ascii.{ascii};
@@ -10,10 +10,11 @@ ghost use Rattle.report.specs.declared.Head.{Head};
 ghost use Rattle.report.specs.declared.Part.{Part};
 ghost use Rattle.report.specs.Report.{most_parts, parts_of, part_count_of, head_of, whole};
 ghost use Rattle.rules.specs.Codes.{between};
-ghost use Rattle.texts.specs.Texts.{Writes, Puts};
+ghost use Rattle.texts.specs.Numerals.{decimal};
 ghost use Rattle.forms.specs.Values.{line, number_line, date_line, hex_text, signed_decimal};
 ghost use Rattle.forms.specs.Form.{text_of, printable, has_form, code_lines, mark_lines, date_lines, after_start, falls, all_fall, resolution_of};
 ghost use Rattle.forms.specs.Form.{position, point_line, point_lines, part_lines, form_of, Coarsest};
+ghost use Rattle.forms.specs.Tails.{has_place, Prepends};
 ghost use Rattle.forms.specs.Lent.{length_given, buffer_after, form_written, bytes_given};
 ghost use Rattle.forms.specs.Refusals.{number_of};
 
@@ -21,7 +22,6 @@ use quantities::{Minute, SignedKilowatt};
 use report::{Head, Part};
 use std::error::Error;
 use std::fmt;
-use texts::Text;
 
 // No form is longer: 13 lines of a head, a resolution, 100 points of 29 bytes, a text of 200.
 pub const MOST_FORM: usize = 3584;
@@ -57,71 +57,6 @@ impl fmt::Display for FormError {
 }
 
 impl Error for FormError {}
-
-fn put_number_line(text: &mut Text, name: &[u8], n: u64)
-    ensures { Writes (length name.now + 21) text.old (number_line name.now n) text.new }
-{
-    text.put(name);
-    text.put_decimal(n);
-    text.put(b"\n");
-}
-
-fn put_date_line(text: &mut Text, name: &[u8], m: Minute)
-    requires { is_time m ≡ true }
-    ensures { Writes (length name.now + 17) text.old (date_line name.now m) text.new }
-{
-    if let Ok(date) = calendar::print_date(m) {
-        text.put(name);
-        text.put(&date);
-        text.put(b"\n");
-    }
-}
-
-fn put_hex(text: &mut Text, bytes: &[u8])
-    ensures { Writes (2 * length bytes.now) text.old (hex_text bytes.now) text.new }
-{
-    text.put(b"");
-    for b in bytes {
-        text.put_hex(*b);
-    }
-}
-
-fn put_identifier_line(text: &mut Text, identifier: [u8; 16])
-    ensures { Writes 44 text.old (line (ascii "identifier=") (hex_text identifier)) text.new }
-{
-    text.put(b"identifier=");
-    put_hex(text, &identifier);
-    text.put(b"\n");
-}
-
-fn put_code_lines(text: &mut Text, h: Head)
-    ensures { Writes 141 text.old (code_lines h) text.new }
-{
-    put_number_line(text, b"unit=", h.unit as u64);
-    put_number_line(text, b"owner=", h.owner as u64);
-    put_number_line(text, b"type=", h.record_type.0 as u64);
-    put_number_line(text, b"operation=", h.operation.0 as u64);
-    put_number_line(text, b"direction=", h.direction.0 as u64);
-}
-
-fn put_mark_lines(text: &mut Text, h: Head)
-    ensures { Writes 170 text.old (mark_lines h) text.new }
-{
-    put_number_line(text, b"start_mark=", h.start_mark.0 as u64);
-    put_number_line(text, b"end_mark=", h.end_mark.0 as u64);
-    put_number_line(text, b"qualification=", h.qualification as u64);
-    put_number_line(text, b"ordinal=", h.ordinal as u64);
-    put_identifier_line(text, h.identifier);
-}
-
-fn put_date_lines(text: &mut Text, h: Head)
-    requires { (is_time h.stamp ≡ true) × (is_time h.period.start ≡ true) × (is_time h.period.end ≡ true) }
-    ensures { Writes 67 text.old (date_lines h) text.new }
-{
-    put_date_line(text, b"stamp=", h.stamp);
-    put_date_line(text, b"start=", h.period.start);
-    put_date_line(text, b"end=", h.period.end);
-}
 
 fn after_start(h: Head, m: Minute) -> u32
     ensures { result ≡ after_start h m }
@@ -187,53 +122,6 @@ fn at_least_zero(p: SignedKilowatt) -> bool
     0 <= p.0
 }
 
-fn put_signed(text: &mut Text, p: SignedKilowatt)
-    ensures { Writes 11 text.old (signed_decimal p.0) text.new }
-{
-    let size = quantities::wide(quantities::size_of(p));
-    if at_least_zero(p) {
-        text.put_decimal(size);
-    } else {
-        text.put(b"-");
-        text.put_decimal(size);
-    }
-}
-
-fn put_point_line(text: &mut Text, h: Head, step: u32, p: Part)
-    requires { 1 ≤ step }
-    ensures { Writes 29 text.old (point_line h step p) text.new }
-{
-    text.put(b"point=");
-    text.put_decimal(position(h, step, p));
-    text.put(b" ");
-    put_signed(text, p.power);
-    text.put(b"\n");
-}
-
-fn put_point_lines(text: &mut Text, h: Head, step: u32, report: &[u8])
-    requires { (1 ≤ step) × (part_count_of report.now ≤ most_parts) }
-    ensures { Writes 2900 text.old (point_lines h step (parts_of report.now)) text.new }
-{
-    let k = report::part_count(report);
-    text.put(b"");
-    for i in 0..k {
-        put_point_line(text, h, step, report::part_at(report, i));
-    }
-}
-
-fn put_part_lines(text: &mut Text, h: Head, report: &[u8])
-    requires { part_count_of report.now ≤ most_parts }
-    ensures { Writes 2932 text.old (part_lines h (resolution_of h (parts_of report.now)) (parts_of report.now)) text.new }
-{
-    if report::part_count(report) == 0 {
-        text.put(b"");
-    } else {
-        let step = resolution(report, h);
-        put_number_line(text, b"resolution=", step as u64);
-        put_point_lines(text, h, step, report);
-    }
-}
-
 // The text behind its mark.
 fn text_of(report: &[u8]) -> &[u8]
     requires { whole report.now ≡ true }
@@ -245,34 +133,199 @@ fn text_of(report: &[u8]) -> &[u8]
     &report[start..end]
 }
 
-fn put_text_line(text: &mut Text, report: &[u8])
-    requires { whole report.now ≡ true }
-    ensures { Writes 206 text.old (line (ascii "text=") (text_of report.now)) text.new }
-{
-    text.put(b"text=");
-    text.put(text_of(report));
-    text.put(b"\n");
+// A text whose end stands: the bytes from `start` on. What comes before is put piece by piece, the last piece first, since the digits of a
+// number come so: each byte is stored once, where it stays.
+#[derive(Drop)]
+struct Tail<'a> {
+    bytes: &'a mut [u8],
+    start: usize,
 }
 
-fn put_lines(text: &mut Text, report: &[u8])
-    requires { has_form report.now ≡ true }
-    ensures { Writes 3516 text.old (form_of report.now) text.new }
-{
-    let h = report::head_of(report);
-    put_code_lines(text, h);
-    put_mark_lines(text, h);
-    put_date_lines(text, h);
-    put_part_lines(text, h, report);
-    put_text_line(text, report);
+impl<'a> Tail<'a> {
+    fn put(&mut self, word: &[u8])
+        requires { has_place (length word.now) self.old }
+        ensures { Prepends (length word.now) self.old word.now self.new }
+    {
+        let end = self.start;
+        let start = end - word.len();
+        self.bytes[start..end].copy_from_slice(word);
+        self.start = start;
+    }
+
+    fn put_byte(&mut self, b: u8)
+        requires { has_place 1 self.old }
+        ensures { Prepends 1 self.old (b ∷ []) self.new }
+    {
+        let start = self.start - 1;
+        self.bytes[start] = b;
+        self.start = start;
+    }
+
+    fn put_decimal(&mut self, n: u64)
+        requires { has_place 20 self.old }
+        ensures { Prepends 20 self.old (decimal n) self.new }
+    {
+        let mut left = n;
+        while left >= 10 {
+            self.put_byte(texts::digit(left));
+            left = left / 10;
+        }
+        self.put_byte(texts::digit(left));
+    }
+
+    fn put_number_line(&mut self, name: &[u8], n: u64)
+        requires { has_place (length name.now + 21) self.old }
+        ensures { Prepends (length name.now + 21) self.old (number_line name.now n) self.new }
+    {
+        self.put(b"\n");
+        self.put_decimal(n);
+        self.put(name);
+    }
+
+    fn put_date_line(&mut self, name: &[u8], m: Minute)
+        requires time { is_time m ≡ true }
+        requires place { has_place (length name.now + 17) self.old }
+        ensures { Prepends (length name.now + 17) self.old (date_line name.now m) self.new }
+    {
+        if let Ok(date) = calendar::print_date(m) {
+            self.put(b"\n");
+            self.put(&date);
+            self.put(name);
+        }
+    }
+
+    fn put_hex(&mut self, identifier: &[u8; 16])
+        requires { has_place 32 self.old }
+        ensures { Prepends 32 self.old (hex_text identifier.now) self.new }
+    {
+        for i in 0..16usize {
+            self.put(&texts::hex_digits(identifier[15 - i]));
+        }
+    }
+
+    fn put_identifier_line(&mut self, identifier: [u8; 16])
+        requires { has_place 44 self.old }
+        ensures { Prepends 44 self.old (line (ascii "identifier=") (hex_text identifier)) self.new }
+    {
+        self.put(b"\n");
+        self.put_hex(&identifier);
+        self.put(b"identifier=");
+    }
+
+    fn put_code_lines(&mut self, h: Head)
+        requires { has_place 141 self.old }
+        ensures { Prepends 141 self.old (code_lines h) self.new }
+    {
+        self.put_number_line(b"direction=", h.direction.0 as u64);
+        self.put_number_line(b"operation=", h.operation.0 as u64);
+        self.put_number_line(b"type=", h.record_type.0 as u64);
+        self.put_number_line(b"owner=", h.owner as u64);
+        self.put_number_line(b"unit=", h.unit as u64);
+    }
+
+    fn put_mark_lines(&mut self, h: Head)
+        requires { has_place 170 self.old }
+        ensures { Prepends 170 self.old (mark_lines h) self.new }
+    {
+        self.put_identifier_line(h.identifier);
+        self.put_number_line(b"ordinal=", h.ordinal as u64);
+        self.put_number_line(b"qualification=", h.qualification as u64);
+        self.put_number_line(b"end_mark=", h.end_mark.0 as u64);
+        self.put_number_line(b"start_mark=", h.start_mark.0 as u64);
+    }
+
+    fn put_date_lines(&mut self, h: Head)
+        requires times { (is_time h.stamp ≡ true) × (is_time h.period.start ≡ true) × (is_time h.period.end ≡ true) }
+        requires place { has_place 67 self.old }
+        ensures { Prepends 67 self.old (date_lines h) self.new }
+    {
+        self.put_date_line(b"end=", h.period.end);
+        self.put_date_line(b"start=", h.period.start);
+        self.put_date_line(b"stamp=", h.stamp);
+    }
+
+    fn put_signed(&mut self, p: SignedKilowatt)
+        requires { has_place 21 self.old }
+        ensures { Prepends 11 self.old (signed_decimal p.0) self.new }
+    {
+        let size = quantities::wide(quantities::size_of(p));
+        if at_least_zero(p) {
+            self.put_decimal(size);
+        } else {
+            self.put_decimal(size);
+            self.put(b"-");
+        }
+    }
+
+    fn put_point_line(&mut self, h: Head, step: u32, p: Part)
+        requires step { 1 ≤ step }
+        requires place { has_place 49 self.old }
+        ensures { Prepends 29 self.old (point_line h step p) self.new }
+    {
+        self.put(b"\n");
+        self.put_signed(p.power);
+        self.put(b" ");
+        self.put_decimal(position(h, step, p));
+        self.put(b"point=");
+    }
+
+    // From the last part to the first.
+    fn put_point_lines(&mut self, h: Head, step: u32, report: &[u8])
+        requires step { 1 ≤ step }
+        requires place { (part_count_of report.now ≤ most_parts) × has_place 2920 self.old }
+        ensures { Prepends 2900 self.old (point_lines h step (parts_of report.now)) self.new }
+    {
+        let k = report::part_count(report);
+        for i in 0..k {
+            self.put_point_line(h, step, report::part_at(report, k - 1 - i));
+        }
+    }
+
+    fn put_part_lines(&mut self, h: Head, report: &[u8])
+        requires { (part_count_of report.now ≤ most_parts) × has_place 2932 self.old }
+        ensures { Prepends 2932 self.old (part_lines h (resolution_of h (parts_of report.now)) (parts_of report.now)) self.new }
+    {
+        if report::part_count(report) != 0 {
+            let step = resolution(report, h);
+            self.put_point_lines(h, step, report);
+            self.put_number_line(b"resolution=", step as u64);
+        }
+    }
+
+    fn put_text_line(&mut self, report: &[u8])
+        requires whole { whole report.now ≡ true }
+        requires place { has_place 206 self.old }
+        ensures { Prepends 206 self.old (line (ascii "text=") (text_of report.now)) self.new }
+    {
+        self.put(b"\n");
+        self.put(text_of(report));
+        self.put(b"text=");
+    }
+
+    fn put_lines(&mut self, report: &[u8])
+        requires form { has_form report.now ≡ true }
+        requires place { has_place 3516 self.old }
+        ensures { Prepends 3516 self.old (form_of report.now) self.new }
+    {
+        let h = report::head_of(report);
+        self.put_text_line(report);
+        self.put_part_lines(h, report);
+        self.put_date_lines(h);
+        self.put_mark_lines(h);
+        self.put_code_lines(h);
+    }
 }
 
-fn put_form(text: &mut [u8], report: &[u8]) -> usize
+// The form, up to the end of the bytes; where it begins.
+fn put_form(bytes: &mut [u8; MOST_FORM], report: &[u8]) -> usize
     requires { has_form report.now ≡ true }
-    ensures { Puts 3584 text.old (form_of report.now) text.new result }
+    ensures form { drop result bytes.new ≡ form_of report.now }
+    ensures inside { result ≤ length bytes.new }
 {
-    let mut text = Text::new(text);
-    put_lines(&mut text, report);
-    text.end()
+    let start = bytes.len();
+    let mut tail = Tail { bytes, start };
+    tail.put_lines(report);
+    tail.start
 }
 
 // Every byte is tested, without an early exit.
@@ -319,7 +372,7 @@ pub fn lay(bytes: &[u8], buffer: &mut [u8]) -> Result<usize, FormError>
     Ok(bytes.len())
 }
 
-// The form of a report, at the start of the scratch; 25 where it has none.
+// The form of a report, in the scratch; 25 where it has none.
 pub fn form_in<'a>(report: &[u8], scratch: &'a mut [u8; MOST_FORM]) -> Result<&'a [u8], FormError>
     ensures value { bytes_given result ≡ form_written report.now }
     ensures bound { IfOk result (λ form. length form.now ≤ 3584) }
@@ -327,8 +380,8 @@ pub fn form_in<'a>(report: &[u8], scratch: &'a mut [u8; MOST_FORM]) -> Result<&'
     if !has_form(report) {
         return Err(FormError::NoForm);
     }
-    let end = put_form(scratch, report);
-    Ok(&scratch[..end])
+    let start = put_form(scratch, report);
+    Ok(&scratch[start..])
 }
 
 // The form of a report at the start of a lent buffer, whose other bytes stay: its length, or 25, then 43.

@@ -58,7 +58,7 @@ all_put {x = x} m at-first from-start p ends h less = record {
 }
 
 -- the digits before a text are the digits, and then the text
-decimal-before : (places n : ℕ) (text : List ℕ) → decimal_before places n text ≡ decimal_before places n [] ++ text
+pub decimal-before : (places n : ℕ) (text : List ℕ) → decimal_before places n text ≡ decimal_before places n [] ++ text
 unfolding decimal_before pick
 decimal-before zero n text = refl
 decimal-before (suc places) n text =

@@ -14,7 +14,7 @@ pub struct Text<'a> {
 }
 
 // `calendar` has the same of a u32: called here it would need `n % 10` made narrower, and a law that the digit is the same.
-fn digit(n: u64) -> u8
+pub fn digit(n: u64) -> u8
     ensures { result ≡ digit_of n }
 {
     (48 + n % 10) as u8
@@ -46,6 +46,13 @@ fn hex_digit(n: u8) -> u8
     ensures { result ≡ hex_digit n }
 {
     if n < 10 { 48 + n } else { 87 + n }
+}
+
+// A byte as two digits, the high half first.
+pub fn hex_digits(b: u8) -> [u8; 2]
+    ensures { result ≡ hex_digit (b / 16) ∷ hex_digit (b % 16) ∷ [] }
+{
+    [hex_digit(b / 16), hex_digit(b % 16)]
 }
 
 impl<'a> Text<'a> {
@@ -87,6 +94,6 @@ impl<'a> Text<'a> {
     pub fn put_hex(&mut self, b: u8)
         ensures { Writes 2 self.old (hex_digit (b / 16) ∷ hex_digit (b % 16) ∷ []) self.new }
     {
-        self.put(&[hex_digit(b / 16), hex_digit(b % 16)]);
+        self.put(&hex_digits(b));
     }
 }

@@ -1,0 +1,8 @@
+use Rattle.std.proofs.Common.{arith}
+use Rattle.forms.proofs.Putting.{ahead, put-line, shorter, ten-digits}
+use Rattle.forms.proofs.Tail.put_point_line.Goals as goal
+
+pub returns : goal.returns
+returns c =
+    let place = rw c.position.ensures.value at (shorter (ten-digits c.position.result (omega arith)) c.put_decimal.ensures) in
+    put-line c.put-3.ensures (ahead place (ahead c.put-2.ensures c.put_signed.ensures)) c.put.ensures
