@@ -238,9 +238,7 @@ impl<const ROOM: usize> Lines<ROOM> {
         self.put_code(line::QUALIFICATION, bytes[head::QUALIFICATION]);
         self.put_field(line::ORDINAL, u16_at(bytes, head::REVISION));
         self.put(line::IDENTIFIER);
-        for &byte in &bytes[head::MRID..head::STAMP] {
-            self.put(&[byte >> 4, byte & 15].map(hex_digit));
-        }
+        self.put(&hex_digits(&bytes[head::MRID..head::STAMP]));
         self.put_date(line::STAMP, bytes, head::STAMP);
         self.put_date(line::START, bytes, head::START);
         self.put_date(line::END, bytes, head::END);
@@ -282,6 +280,16 @@ fn eight_digits(number: u32) -> u64 {
     quotients | (pairs - 10 * quotients) << 8
 }
 
+/// The digits of an identifier, "first byte first".
+fn hex_digits(mrid: &[u8]) -> [u8; 2 * MRID_SIZE] {
+    let mut digits = [0; 2 * MRID_SIZE];
+    let (pairs, _) = digits.as_chunks_mut();
+    for ([first, second], byte) in pairs.iter_mut().zip(mrid) {
+        (*first, *second) = (hex_digit(byte >> 4), hex_digit(byte & 15));
+    }
+    digits
+}
+
 fn hex_digit(value: u8) -> u8 {
     b'0' + value + if value > 9 { b'a' - b'0' - 10 } else { 0 }
 }
@@ -297,7 +305,7 @@ pub fn read_form(form: &[u8], report: &mut [u8]) -> Result<usize, u8> {
     }
     let mut points = Points::new();
     let (starts, powers) = reader
-        .points(asked.record.period, &mut points)
+        .parts(asked.record.period, &mut points)
         .ok_or(NO_SUCH_FORM)?;
     let text = reader.text().ok_or(NO_SUCH_FORM)?;
     put_report(report, &head, starts, powers, text)
@@ -333,16 +341,38 @@ fn put_report(
 
 /// The points of a form, held back until all of it is read.
 struct Points {
-    starts: [u32; MAX_PARTS + 1],
+    /// The positions, in their place then the starts, the period's end behind them.
+    places: [u32; MAX_PARTS + 1],
     powers: [i32; MAX_PARTS],
 }
 
 impl Points {
     fn new() -> Points {
         Points {
-            starts: [0; MAX_PARTS + 1],
+            places: [0; MAX_PARTS + 1],
             powers: [0; MAX_PARTS],
         }
+    }
+
+    /// Makes starts of so many positions: "the first is 1, they rise strictly, the last lies before
+    /// the end", and the resolution is the coarsest that does.
+    fn place(&mut self, count: usize, resolution: u32, period: Period) -> Option<()> {
+        let Period { start, end } = period;
+        let length = end.0.checked_sub(start.0).filter(|_| self.places[0] == 1)?;
+        let (mut coarsest, mut last) = (Coarsest::default(), 0);
+        coarsest.add(length);
+        for place in &mut self.places[..count] {
+            let position = *place;
+            let offset = u64::from(position.wrapping_sub(1)) * u64::from(resolution);
+            if position <= last || offset >= u64::from(length) {
+                return None;
+            }
+            last = position;
+            coarsest.add(offset as u32);
+            *place = start.0 + offset as u32;
+        }
+        self.places[count] = end.0;
+        (coarsest.resolution() == resolution).then_some(())
     }
 }
 
@@ -399,13 +429,14 @@ impl<'a> Reader<'a> {
     fn mrid(&mut self) -> Option<[u8; MRID_SIZE]> {
         self.pass(line::IDENTIFIER)?;
         let digits = self.take::<{ 2 * MRID_SIZE }>()?;
-        let values = digits.map(hex_value);
-        let (pairs, _) = values.as_chunks();
-        let mut mrid = [0; MRID_SIZE];
-        for (byte, [high, low]) in mrid.iter_mut().zip(pairs) {
+        let (pairs, _) = digits.as_chunks::<2>();
+        let (mut mrid, mut all_digits) = ([0; MRID_SIZE], true);
+        for (byte, &[first, second]) in mrid.iter_mut().zip(pairs) {
+            let (high, low) = (hex_value(first), hex_value(second));
             *byte = high << 4 | low;
+            all_digits &= (hex_digit(high) == first) & (hex_digit(low) == second);
         }
-        (values.map(hex_digit) == *digits).then_some(mrid)
+        all_digits.then_some(mrid)
     }
 
     fn date<const SIZE: usize>(&mut self, name: &[u8; SIZE]) -> Option<u32> {
@@ -465,36 +496,35 @@ impl<'a> Reader<'a> {
         number
     }
 
-    /// The lines of the resolution and of the points: the starts, the period's end behind them, and
-    /// the powers. "the first is 1, they rise strictly, the last lies before the end".
-    fn points<'p>(
+    /// The lines of resolution and points: the starts, the period's end behind them, and the powers.
+    fn parts<'p>(
         &mut self,
         period: Period,
         points: &'p mut Points,
     ) -> Option<(&'p [u32], &'p [i32])> {
-        let length = period.end.0.checked_sub(period.start.0)?;
-        let mut coarsest = Coarsest::default();
-        coarsest.add(length);
         self.pass(line::RESOLUTION)?;
         let resolution = self.number()?;
-        let (mut count, mut last_position) = (0, 0);
-        while self.pass(line::POINT).is_some() {
-            let position = self.number()?;
-            let rises = position > last_position && (position == 1) == (count == 0);
-            let offset = u64::from(position.checked_sub(1)?) * u64::from(resolution);
-            if !rises || offset >= u64::from(length) || count == MAX_PARTS {
-                return None;
-            }
-            let offset = offset as u32;
-            coarsest.add(offset);
-            self.pass(b" ")?;
-            points.starts[count] = period.start.0 + offset;
-            points.powers[count] = self.power()?;
-            (count, last_position) = (count + 1, position);
+        let count = self.points(points)?;
+        points.place(count, resolution, period)?;
+        Some((&points.places[..=count], &points.powers[..count]))
+    }
+
+    /// The lines of the points, at most 100: how many.
+    #[inline(never)]
+    fn points(&mut self, points: &mut Points) -> Option<usize> {
+        // A copy that is lent to nobody stays in the processor's registers.
+        let mut here = Reader { rest: self.rest };
+        let mut count = 0;
+        while here.pass(line::POINT).is_some() {
+            let position = points.places.get_mut(count)?;
+            let power = points.powers.get_mut(count)?;
+            *position = here.number()?;
+            here.pass(b" ")?;
+            *power = here.power()?;
+            count += 1;
         }
-        points.starts[count] = period.end.0;
-        let in_one_way = count > 0 && coarsest.resolution() == resolution;
-        in_one_way.then_some((&points.starts[..=count], &points.powers[..count]))
+        self.rest = here.rest;
+        Some(count)
     }
 
     /// The text's line, behind which nothing stands.
