@@ -123,22 +123,25 @@ told_forms() {
 
 # a stream to forms, forms to reports, and again
 forms() {
-  local stream=samples/evening.stream roster=samples/evening.roster
-  logged samples/evening.forms ./desk form "$stream"
-  logged <(tail -c +113 "$stream") ./desk report samples/evening.forms
-  logged "$stream" ./desk report samples/evening.forms "$roster"
-  logged "$stream" ./desk report - "$roster" < samples/evening.forms
-  told 'forms do not reach the log' cmp samples/evening.log <(./desk report samples/evening.forms "$roster" | ./desk log -)
-  logged <(grep -v '^$' samples/evening.forms) bash -c './desk form samples/evening.stream | grep -v "^$"'
-  logged <(tail -c +113 "$stream") ./desk report - < <(grep -v '^$' samples/evening.forms)
+  local forms=samples/evening.forms roster=samples/evening.roster stream=samples/roster-a.stream
+  told_forms "$(grep '^report_forms: report' docs/FORM.md)" ./desk form samples/evening.stream
+  told 'samples/evening.forms is another' cmp "$forms" "$room/out"
+  told 'the roster is another' cmp "$roster" <(head -c 112 samples/evening.stream)
+  told 'the forms are refused' bash -c './desk report "$1" > "$2"' - "$forms" "$room/reports"
+  logged "$forms" ./desk form "$room/reports"
+  logged <(cat "$roster" "$room/reports") ./desk report "$forms" "$roster"
+  logged <(cat "$roster" "$room/reports") ./desk report - "$roster" < "$forms"
+  logged "$room/reports" ./desk report - < <(grep -v '^$' "$forms")
+  logged samples/forms.log bash -c './desk report "$1" "$2" | ./desk log -' - "$forms" "$roster"
+  logged <(tail -c +57 "$stream") bash -c './desk form "$1" | ./desk report -' - "$stream"
   logged <(printf '') ./desk form - < /dev/null
   logged <(printf '') ./desk report - < /dev/null
   refused 1 'desk: no such file: no/such' ./desk report no/such
-  refused 1 $'desk: no such file: no/such\ndesk: the roster can'"'"'t be copied: no/such' ./desk report samples/evening.forms no/such
+  refused 1 $'desk: no such file: no/such\ndesk: the roster can'"'"'t be copied: no/such' ./desk report "$forms" no/such
   refused 0 'report_forms: the one argument that it takes is reports' target/bin/report_forms forms
   refused 1 "report_forms: standard input can't be read: Is a directory" bash -c './desk report - < samples'
   refused 1 "report_forms: standard input can't be read: Is a directory" bash -c './desk form - < samples'
-  refused 1 "report_forms: standard output can't be written: No space left on device" bash -c './desk form samples/evening.stream > /dev/full'
+  refused 1 "report_forms: standard output can't be written: No space left on device" bash -c './desk form samples/roster-a.stream > /dev/full'
   refused_forms
 }
 
@@ -163,8 +166,8 @@ s/^owner/Owner/|$refusal line 2 has to begin with owner=
 s/^unit=1/unit=65/|$refusal its unit is not 1 to 64
 s/^owner=7/owner=1000/|$refusal its owner is not 1 to 999
 s/^type=2/type=7/|$refusal a field is out of range (question 4)
-s/^type=2/type=1/|$refusal its parts do not cover its period, or it may have none (question 8)
-s/^point=1/point=2/|$refusal its parts do not cover its period, or it may have none (question 8)
+s/^type=2/type=1/|$refusal it has no parts, or may have none (question 8)
+s/^point=1/point=2/|$refusal its parts do not cover its period, part 1 is wrong (question 8)
 s/^stamp=.*/stamp=2026-03-01 24:00/|$refusal line 11 has no date such as 2026-03-01 00:10
 s/^text=/text=\xc3\xa9/|$refusal its text is not printable ASCII
 END
@@ -269,9 +272,14 @@ page_of_dates() {
   told "$page: $rows rows" [ "$rows" -ge 11 ]
 }
 
-# page_of_forms: each form of the page is read, and written back
+# page_of_forms: what the page has the desk say it says; each form of the page is read, and written back
 page_of_forms() {
-  local form forms=0
+  local form forms=0 line
+  awk '/^```$/ { inside = !inside; next } inside && /^\$ / { said = 1 } !inside { said = 0 } inside && said' docs/FORM.md > "$room/said"
+  while IFS= read -r line; do
+    printf '%s\n' "$line" && bash -c "${line#'$ '}" 2>&1
+  done < <(grep '^\$ ' "$room/said") > "$room/says"
+  told 'FORM.md has something else than is said' diff "$room/said" "$room/says"
   awk -v room="$room" '/^```$/ { inside = !inside; next } inside && /^unit=/ { n++ } inside && n { print > (room "/page" n ".form") }' docs/FORM.md
   for form in "$room"/page*.form; do
     forms=$((forms + 1))

@@ -169,7 +169,7 @@ fn packed_length(outcome: Result<usize, FormError>) -> u64
 {
     match outcome {
         Ok(length) => 4294967296 * length as u64,
-        Err(error) => u64::from(u8::from(error)),
+        Err(refusal) => u64::from(u8::from(refusal)),
     }
 }
 

@@ -1,6 +1,7 @@
 // What a person can look at where a form is refused. 24 names no line: this is found beside the answer.
 
 use crate::from_forms::Collected;
+use report::Head;
 use report_input::LONGEST;
 use std::io::Print;
 use texts::Text;
@@ -12,7 +13,7 @@ pub(crate) fn tell_report<E: Print>(err: &E, number: u64, report: &[u8]) {
     text.put(b"report_forms: report ");
     text.put_decimal(number);
     text.put(b": 25, ");
-    text.put(why_no_form(report));
+    put_reason(&mut text, report);
     text.put(b"\n");
     let end = text.end();
     tell(err, &line, end);
@@ -40,24 +41,38 @@ fn tell<E: Print>(err: &E, line: &[u8; 512], end: usize) {
     let _ = err.write_all(&line[..end.min(512)]);
 }
 
-fn why_no_form(report: &[u8]) -> &'static [u8] {
+// Why a report has no form.
+fn put_reason(text: &mut Text, report: &[u8]) {
     let h = report::head_of(report);
     if !report::is_whole(report) {
-        return b"it is not whole (question 2)";
+        text.put(b"it is not whole (question 2)");
+    } else if !validation::fields_in_range(h, report) {
+        text.put(b"a field is out of range (question 4)");
+    } else if let Err(broken) = validation::judge_cover(h, report) {
+        put_broken(text, broken.part);
+    } else {
+        text.put(last_reason(h));
     }
-    if !validation::fields_in_range(h, report) {
-        return b"a field is out of range (question 4)";
+}
+
+fn put_broken(text: &mut Text, part: u16) {
+    if part == 0 {
+        text.put(b"it has no parts, or may have none (question 8)");
+    } else {
+        text.put(b"its parts do not cover its period, part ");
+        text.put_decimal(u64::from(part));
+        text.put(b" is wrong (question 8)");
     }
-    if validation::judge_cover(h, report).is_err() {
-        return b"its parts do not cover its period, or it may have none (question 8)";
-    }
+}
+
+fn last_reason(h: Head) -> &'static [u8] {
     if !(1..=64).contains(&h.unit) {
-        return b"its unit is not 1 to 64";
+        b"its unit is not 1 to 64"
+    } else if !(1..=999).contains(&h.owner) {
+        b"its owner is not 1 to 999"
+    } else {
+        b"its text is not printable ASCII"
     }
-    if !(1..=999).contains(&h.owner) {
-        return b"its owner is not 1 to 999";
-    }
-    b"its text is not printable ASCII"
 }
 
 fn put_hint(text: &mut Text, first_line: u64, form: &[u8]) {
@@ -123,7 +138,7 @@ fn put_difference(text: &mut Text, first_line: u64, form: &[u8]) {
     let mut right = [0u8; 3584];
     match forms::write_form(report, &mut right) {
         Ok(length) => put_right_line(text, first_line, form, &right[..length]),
-        Err(_) => text.put(why_no_form(report)),
+        Err(_) => put_reason(text, report),
     }
 }
 
