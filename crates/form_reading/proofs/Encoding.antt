@@ -25,7 +25,8 @@ use Rattle.form_reading.specs.Reading.{AreBytes}
 use Rattle.form_reading.proofs.Bytes.{four-small}
 
 -- one stretch after the other
-pub stretch-join : {x y : List ℕ} (s : List ℕ) (at n m : ℕ) → x ≡ part s at n → y ≡ part s (at + n) m → x ++ y ≡ part s at (n + m)
+pub stretch-join : {x y : List ℕ} (s : List ℕ) (at n m : ℕ) → x ≡ part s at n → y ≡ part s (at + n) m
+    → x ++ y ≡ part s at (n + m)
 unfolding part
 stretch-join s at n m a b = rw (a, b, ← drop-drop n at s) (sym (take-add n m (drop at s)))
 
@@ -101,14 +102,16 @@ module _ (s : List ℕ) (bytes : AreBytes s) where
         let dated = front-join s 40 4
         (front-join s 36 4 (front-join s 32 4 identified (number 4 32 (omega (arith, long)))) (number 4 36 (omega (arith, long))))
         (number 4 40 (omega (arith, long))) in
-        front-join s 46 2 (front-join s 44 2 dated (number 2 44 (omega (arith, long)))) (mark 2 46 0 (omega (arith, long)) marks.no_bits)
+        front-join s 46 2 (front-join s 44 2 dated (number 2 44 (omega (arith, long))))
+        (mark 2 46 0 (omega (arith, long)) marks.no_bits)
 
     part-encoded : (j : ℕ) → j < part_count_of s → encode_part (part_at s j) ≡ part s (part_start j) 16
     part-encoded j l =
         let at = part_start j in
         let marks = (whole-marked s is_whole).parts j l in
         let end : at + 4 + 4 ≡ at + 8 = omega arith in
-        let power : of_z w32 (to_z w32 (u32_at s (at + 12))) ≡ u32_at s (at + 12) = of_z-to_z w32 (u32_at s (at + 12)) (four-small s bytes (at + 12)) in
+        let power : of_z w32 (to_z w32 (u32_at s (at + 12))) ≡ u32_at s (at + 12)
+        = of_z-to_z w32 (u32_at s (at + 12)) (four-small s bytes (at + 12)) in
         rw (power, end)
         (stretch-join s at 12 4
         (stretch-join s at 8 4

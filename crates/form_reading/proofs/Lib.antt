@@ -3,12 +3,11 @@ pub mod Heads
 pub mod Bytes
 pub mod Covered
 pub mod PointLines
-pub mod FormLines
 pub mod Encoding
-pub mod Formed
 pub mod Scanned
 pub mod Counted
 pub mod PartsPut
+pub mod Reports
 pub mod ReadBytes
 pub mod LinesBack
 pub mod Round

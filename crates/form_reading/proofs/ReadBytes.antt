@@ -16,8 +16,8 @@ use Rattle.report.specs.Report.{text_mark, most_parts, most_text, part_count_of,
 use Rattle.report.specs.Encoded.{encode_head, encode_part, encode_parts, encode_report}
 use Rattle.report.proofs.Encoding.{named}
 use Rattle.forms.specs.Form.{text_of, printable, has_form}
-use Rattle.form_reading.specs.Reading.{number_in, hex_byte, code_lines_in, mark_lines_in, point_count, parts_in, lines_in, grid_of, report_by, report_of, AreBytes}
-use Rattle.form_reading.proofs.Formed.{formed}
+use Rattle.form_reading.specs.Reading.{hex_byte, code_lines_in, mark_lines_in, point_count, parts_in, lines_in, grid_of, report_by, report_of, AreBytes}
+use Rattle.form_reading.proofs.Reports.{printed}
 use Rattle.form_reading.proofs.Bytes.{no_bytes, byte_first, bytes_append, number_bytes, series_bytes, printed_bytes}
 
 -- the one-byte fields of a head
@@ -64,15 +64,17 @@ module _ (h : Head) (f : ℕ → ℕ) (ps : List Part) (text : List ℕ) where
   unfolding encode_report encode_head bytes_of series
   length-there short = uint-found 2 encoded 44 h.text_length _ refl short
 
-  text-there : h.part_count ≡ length ps → h.part_count < 65536 → length text ≤ h.text_length → h.text_length < 65536 → text_of encoded ≡ text
+  text-there : h.part_count ≡ length ps → h.part_count < 65536 → length text ≤ h.text_length → h.text_length < 65536
+      → text_of encoded ≡ text
   unfolding encode_report part
   text-there counted few most short =
       let long : length front ≡ 48 + 16 * h.part_count + 2 = rw (front-long, counted) (omega arith) in
-      rw (count-there few, length-there short, drop_at front text (48 + 16 * h.part_count + 2) long) (take_all h.text_length text most)
+      rw (count-there few, length-there short, drop_at front text (48 + 16 * h.part_count + 2) long)
+      (take_all h.text_length text most)
 
   encoded-bytes : Codes h → ((j : ℕ) → f j < 256) → AreBytes text → AreBytes encoded
   unfolding encode_report encode_head
-  encoded-bytes codes identifier printed =
+  encoded-bytes codes identifier text_bytes =
       search (bytes_append, byte_first, no_bytes, number_bytes, series_bytes, parts-bytes) depth 20
 
 part-most : (s : List ℕ) (at n : ℕ) → length (part s at n) ≤ n
@@ -99,23 +101,22 @@ module _ (form : List ℕ) where
   unfolding lines_in
   short = omega arith
 
-  identifier_at : ℕ
-  identifier_at = (number_in 8 form (number_in 14 form (number_in 9 form (number_in 11 form (code_lines_in form).next).next).next).next).next + 11
-
-  same-head : (lines_in form).head ≡ named (lines_in form).head (hex_byte form identifier_at)
-  unfolding lines_in mark_lines_in identifier_at
-  same-head = refl
+  -- the identifier is read byte by byte, from some place on
+  identified : (at : ℕ) × ((lines_in form).head ≡ named (lines_in form).head (hex_byte form at))
+  unfolding lines_in mark_lines_in
+  identified = (_, refl)
 
   pub report-bytes : has_form (report_of form) ≡ true → AreBytes (report_of form)
   unfolding report_by
   report-bytes has =
       let h = (lines_in form).head in
-      let f = hex_byte form identifier_at in
+      let f = hex_byte form identified.0 in
       let ps = parts_in form (grid_of (lines_in form)) (lines_in form).points_at h.part_count in
       let text = part form (lines_in form).text_at h.text_length in
-      let same : report_of form ≡ encoded h f ps text = ap (λ (x : Head). encode_report x ps text) same-head in
+      let same : report_of form ≡ encoded h f ps text = ap (λ (x : Head). encode_report x ps text) identified.1 in
       let counted : h.part_count ≡ length ps = sym (series-length _ 0 h.part_count) in
       let most : length text ≤ h.text_length = part-most form (lines_in form).text_at h.text_length in
       let there = text-there h f ps text counted (omega (arith, few)) most (omega (arith, short)) in
-      let printed = sym (ap (λ (r : List ℕ). all printable (text_of r)) same ∙ ap (all printable) there) ∙ (formed (report_of form) has).printed in
-      rw same (encoded-bytes h f ps text codes (λ j. omega arith) (printed_bytes text printed))
+      let same_text : text_of (report_of form) ≡ text = ap text_of same ∙ there in
+      let ascii = sym (ap (all printable) same_text) ∙ printed (report_of form) has in
+      rw same (encoded-bytes h f ps text codes (λ j. omega arith) (printed_bytes text ascii))

@@ -428,19 +428,19 @@ fn put_report(report: &mut Text, form: &[u8], lines: Lines)
     report.put(part(form, lines.text_at, usize::from(lines.head.text_length)));
 }
 
-// This does nothing: its contract is the claim, over all reports and all texts, that makes the reader's definition right whatever it is.
-// A report that has a form comes back from it; what is read has this form; two reports never share one; 24 is exactly for texts that
-// are the form of no report.
+// This does nothing: its contract is the claim, over all reports and all texts, that makes the reader's definition right whatever it
+// is. A report that has a form comes back from it; what is read is bytes and has this form; two reports never share a form; 24 is
+// exactly for texts that are the form of no report.
 pub fn forms_are_read_back()
     ensures report { (s : List ℕ) → AreBytes s → has_form s ≡ true → form_read (form_of s) ≡ Ok s }
-    ensures form { (form s : List ℕ) → form_read form ≡ Ok s → IsFormOf form s }
+    ensures form { (form s : List ℕ) → form_read form ≡ Ok s → AreBytes s × IsFormOf form s }
     ensures apart { (s t : List ℕ) → AreBytes s → AreBytes t → has_form s ≡ true → has_form t ≡ true → form_of s ≡ form_of t → s ≡ t }
     ensures refused { (form : List ℕ) → ((s : List ℕ) → AreBytes s → IsFormOf form s → ⊥) → form_read form ≡ no_report }
     ensures only { (form : List ℕ) → form_read form ≡ no_report → (s : List ℕ) → AreBytes s → IsFormOf form s → ⊥ }
 {}
 
-// This does nothing: its contract is that "a form at a finer one is 24": the lines at any other resolution on which all of a report with
-// parts falls are not read.
+// This does nothing: its contract is that "a form at a finer one is 24". A report with parts, written at any other resolution on which
+// all of it falls, is not read.
 #[tactic(auto, using(crate::proofs::Round::finer))]
 pub fn finer_forms_are_refused()
     ensures { (s : List ℕ) (step : ℕ) → AreBytes s → has_form s ≡ true → 1 ≤ length (parts_of s) → step ≤ 1440

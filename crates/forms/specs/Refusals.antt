@@ -1,5 +1,5 @@
 -- Paper 02, A4, "Turned away": this paper's number of each refusal.
-use Rattle.std.specs.Prelude.{ℕ, Result, Ok, Err}
+use Rattle.std.specs.Prelude.{ℕ}
 use Rattle.forms.specs.declared.FormError.{FormError}
 use Rattle.forms.specs.declared.FormError.TheVariants.{NotAForm, NoForm, NoRoom}
 

@@ -30,7 +30,7 @@ then-yes (Ok _) = refl
 then-yes (Err r) = refl
 
 -- the parts' times, the last test of one clause of several, may stand after all
-fields_at : (h : Head) (ps : List Part) (t : Bool) → all part_times ps ≡ t → (question4 h [] && t) ≡ question4 h ps
+pub fields_at : (h : Head) (ps : List Part) (t : Bool) → all part_times ps ≡ t → (question4 h [] && t) ≡ question4 h ps
 unfolding question4 fields_in_range every and_each all
 fields_at h ps true e = rw e (and-true _)
 fields_at h ps false e = simp (e, and-false)

@@ -2,6 +2,7 @@
 #![tactic(auto)]
 
 ghost use Rattle.std.specs.Prelude.{◌≡◌, ◌&&◌, ◌||◌, []};
+ghost use Rattle.fields.specs.Lists.{all};
 ghost use Rattle.report.specs.Report.{parts_of};
 ghost use Rattle.rules.specs.Codes.{between, stop, event, create, withdraw};
 ghost use Rattle.rules.specs.Records.{part_times, begun};
@@ -125,6 +126,26 @@ fn head_passes(h: Head) -> bool
         & (!(h.record_type == RecordType::EVENT) | ((h.operation == Operation::CREATE) & zero))
 }
 
+// Question 4's times of each part.
+fn parts_are_times(report: &[u8]) -> bool
+    ensures { result ≡ all part_times (parts_of report.now) }
+{
+    let k = report::part_count(report);
+    let mut times = true;
+    for i in 0..k {
+        times = times & part_is_times(report::part_at(report, i));
+    }
+    times
+}
+
+// Question 4 alone, for who asks neither 7 nor 9: a pass of its own over the parts.
+#[tactic(auto, using(crate::proofs::InOrder::fields_at))]
+pub fn fields_in_range(h: Head, report: &[u8]) -> bool
+    ensures { result ≡ question4 h (parts_of report.now) }
+{
+    head_passes(h) & parts_are_times(report)
+}
+
 // Question 6, of an early end.
 #[tactic(auto, unfolding(fields::specs::Lists::every, fields::specs::Lists::and_each))]
 fn early_end_is_consistent(h: Head) -> bool
@@ -185,7 +206,7 @@ fn head_is_on_quarters(h: Head) -> bool
 
 // Question 8.
 #[tactic(auto, unfolding(rules::specs::Questions::question8, rules::specs::Records::cover_by, fields::specs::Lists::pick))]
-fn judge_cover(h: Head, report: &[u8]) -> Result<(), Broken>
+pub fn judge_cover(h: Head, report: &[u8]) -> Result<(), Broken>
     ensures { result ≡ question8 h (parts_of report.now) }
 {
     if (h.operation == Operation::WITHDRAW) | !records::is_levelled(h.record_type) {

@@ -1,5 +1,5 @@
--- What a report that has a form is known to have. Assumes nothing.
-use Prim.Native.Nat.{ℕ, ◌≤◌, ◌<◌}
+-- What the reading needs of a report that has a form. Assumes nothing.
+use Prim.Native.Nat.{ℕ, ◌<◌}
 use mathlib.Core.Path.{◌≡◌, sym, ◌∙◌}
 use mathlib.Core.Bool.{true}
 use mathlib.Core.List.{List}
@@ -14,28 +14,20 @@ use Rattle.fields.specs.Lists.{all}
 use Rattle.fields.proofs.Bools.{every_true, pick-elim}
 use Rattle.fields.proofs.Tests.{series-length}
 use Rattle.fields.proofs.Slices.{part_length}
-use Rattle.quantities.specs.Quantities.{last_minute}
 use Rattle.report.specs.declared.Broken.{Broken}
 use Rattle.report.specs.Report.{head_of, part_at, parts_of, part_count_of, text_length_of, whole}
 use Rattle.report.specs.Cover.{cover_of, no_parts}
 use Rattle.report.specs.Remark.{text_start}
 use Rattle.report.proofs.Covering.{covered-is}
 use Rattle.report.proofs.Sizes.{whole-sized}
-use Rattle.rules.specs.Records.{fields_in_range, cover_by}
-use Rattle.rules.specs.Questions.{question4, question8}
+use Rattle.rules.specs.Records.{cover_by}
+use Rattle.rules.specs.Questions.{question8}
+use Rattle.forms.proofs.Formed.{formed}
 use Rattle.forms.specs.Form.{text_of, printable, has_form}
 use Rattle.form_reading.specs.Reading.{AreBytes}
 use Rattle.form_reading.proofs.Bytes.{series_bytes, two-small}
 use Rattle.form_reading.proofs.Covered.{Link, linked}
 use Rattle.form_reading.proofs.Heads.{InRange}
-
-pub record Formed (s : List ℕ) : Type 0 where
-  pub is_whole : whole s ≡ true
-  pub stamp : (head_of s).stamp.0 ≤ last_minute
-  pub start : (head_of s).period.start.0 ≤ last_minute
-  pub end : (head_of s).period.end.0 ≤ last_minute
-  pub printed : all printable (text_of s) ≡ true
-  pub linked : (j : ℕ) → j < part_count_of s → Link (part_at s) (part_count_of s) (head_of s).period j
 
 abbrev Covered : List ℕ → Type 0
 Covered s = (part_count_of s ≡ 0) ⊎ (is_ok (cover_of (parts_of s) (head_of s).period) ≡ true)
@@ -44,28 +36,24 @@ covered : (s : List ℕ) → is_ok (question8 (head_of s) (parts_of s)) ≡ true
 unfolding question8 cover_by
 covered s =
     let none : is_ok (no_parts (parts_of s)) ≡ true → Covered s =
-    λ e. inl (sym (series-length (part_at s) 0 (part_count_of s)) ∙ eqb-true _ _ (sym (covered-is (eqb (length (parts_of s)) 0) 0) ∙ e)) in
+    λ e.
+    let empty = eqb-true _ _ (sym (covered-is (eqb (length (parts_of s)) 0) 0) ∙ e) in
+    inl (sym (series-length (part_at s) 0 (part_count_of s)) ∙ empty) in
     let P : Result Unit Broken → Type 0 = λ c. is_ok c ≡ true → Covered s in
     pick-elim P _ (λ t. none) (λ t. pick-elim P _ (λ u e. inr e) (λ u. none))
 
-pub formed : (s : List ℕ) → has_form s ≡ true → Formed s
-unfolding has_form question4 fields_in_range
-formed s e =
-    let tests = every_true _ e in
-    let fields = every_true _ tests.1.0 in
-    let ranges = every_true _ fields.1.1.1.0 in
-    record {
-      is_whole = tests.0;
-      stamp = leb-true _ _ ranges.1.1.1.1.0;
-      start = leb-true _ _ ranges.1.1.1.1.1.0;
-      end = leb-true _ _ ranges.1.1.1.1.1.1.0;
-      printed = tests.1.1.1.1.1.0;
-      linked = λ j l.
-          ⊎_elim
-          (λ none. absurd (omega (arith, none)))
-          (λ cover. linked (part_at s) (part_count_of s) (head_of s).period cover j l)
-          (covered s tests.1.1.0);
-    }
+pub links : (s : List ℕ) → has_form s ≡ true → (j : ℕ) → j < part_count_of s
+    → Link (part_at s) (part_count_of s) (head_of s).period j
+unfolding has_form
+links s e j l =
+    ⊎_elim
+    (λ none. absurd (omega (arith, none)))
+    (λ cover. linked (part_at s) (part_count_of s) (head_of s).period cover j l)
+    (covered s (every_true _ e).1.1.0)
+
+pub printed : (s : List ℕ) → has_form s ≡ true → all printable (text_of s) ≡ true
+unfolding has_form
+printed s e = (every_true _ e).1.1.1.1.1.0
 
 pub text-length : (s : List ℕ) → whole s ≡ true → length (text_of s) ≡ text_length_of s
 text-length s w =
@@ -87,7 +75,7 @@ in_range s bytes e =
       ordinal = two-small s bytes 12;
       long = series-length (u8_at s) 16 16;
       bytes = series_bytes (u8_at s) 16 16 bytes;
-      stamp = known.stamp;
-      start = known.start;
-      end = known.end;
+      stamp = leb-true _ _ known.stamp;
+      start = leb-true _ _ known.start;
+      end = leb-true _ _ known.end;
     }
