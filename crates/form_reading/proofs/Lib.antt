@@ -11,3 +11,4 @@ pub mod Reports
 pub mod ReadBytes
 pub mod LinesBack
 pub mod Round
+pub mod Decoded
