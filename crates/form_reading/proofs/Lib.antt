@@ -12,3 +12,4 @@ pub mod PartsPut
 pub mod ReadBytes
 pub mod LinesBack
 pub mod Round
+pub mod Standing
