@@ -19,13 +19,14 @@ use borrow.Author.Tests.{leb-true}
 use Rattle.quantities.specs.declared.Minute.{Minute}
 use Rattle.quantities.specs.Quantities.{last_minute}
 use Rattle.calendar.specs.declared.DateError.{DateError}
-use Rattle.calendar.specs.Reading.{date_read}
+use Rattle.calendar.specs.Reading.{date_read, printed_minute, read_minute, no_minute}
+use lib.Dec.{leb}
 use Rattle.std.specs.Prelude.{Result}
 use Rattle.forms.specs.Form.{text_of}
 use Rattle.form_reading.specs.declared.Numeral.{Numeral}
 use Rattle.form_reading.specs.declared.Grid.{Grid}
 use Rattle.form_reading.specs.declared.Lines.{Lines}
-use Rattle.form_reading.specs.Reading.{power_at, minute_or_0, date_at, hex_byte, code_lines_in, mark_lines_in, date_lines_in, point_in, point_at, is_point, part_in, parts_in, grid_of, lines_in, report_by, report_of}
+use Rattle.form_reading.specs.Reading.{number_at, power_at, minute_or_0, date_at, hex_byte, code_lines_in, mark_lines_in, date_lines_in, point_in, point_at, is_point, part_in, parts_in, grid_of, lines_in, report_by, report_of}
 use Rattle.report.specs.declared.Head.{Head}
 use Rattle.report.specs.declared.Part.{Part}
 use Rattle.report.specs.Report.{text_mark, part_start, head_of, part_at, parts_of}
@@ -66,14 +67,13 @@ module _ (h : Head) (f : ℕ → ℕ) (parts : ℕ → Part) (k : ℕ) (text : L
   abbrev tail : List ℕ
   tail = bytes_of 2 text_mark ++ text
 
-  part-there : (j : ℕ) → j < k → drop (part_start j) report ≡ encode_part (parts j) ++ parts-after parts 0 j k tail
+  part-there : (j : ℕ) → j < k → drop (part_start j) report ≡ encode_part (parts j) ++ (encode_parts (series parts (j + 1) (k - (j + 1))) ++ tail)
   unfolding encode_report
   part-there j l =
       let head = encode_head (named h f) in
       let ps = encode_parts (series parts 0 k) in
-      let z : 0 + j ≡ j = omega arith in
       let shape : report ≡ head ++ (ps ++ tail) = append_assoc (head ++ ps) (bytes_of 2 text_mark) text ∙ append_assoc head ps tail in
-      rw shape (sym (drop-drop (16 * j) 48 (head ++ (ps ++ tail))) ∙ rw (drop_at head (ps ++ tail) 48 (head-long h f [] [])) (rw z at (parts-from parts 0 j k tail l)))
+      rw shape (sym (drop-drop (16 * j) 48 (head ++ (ps ++ tail))) ∙ rw (drop_at head (ps ++ tail) 48 (head-long h f [] [])) (parts-from parts 0 j k tail l ∙ ap (λ (i : ℕ). encode_part (parts i) ++ (encode_parts (series parts (i + 1) (k - (j + 1))) ++ tail)) (zero-add j)))
 
   part-back : (bits : ℕ → ℕ) (j : ℕ) → j < k → PartFits (parts j) (bits j) → part_at report j ≡ parts j
   unfolding bytes_of
@@ -103,7 +103,9 @@ module _ (h : Head) (f : ℕ → ℕ) (parts : ℕ → Part) (k : ℕ) (text : L
 date-most : (s : List ℕ) (at : ℕ) → (date_at s at).0 ≤ last_minute
 unfolding date_read
 date-most s at =
-    pick-elim (λ (r : Result Minute DateError). (minute_or_0 r).0 ≤ last_minute) _ (λ e. leb-true _ _ e) (λ e. omega arith)
+    pick-elim (λ (r : Result Minute DateError). (minute_or_0 r).0 ≤ last_minute)
+    (leb (printed_minute (part s at 16)) last_minute) {a = read_minute (printed_minute (part s at 16))} {b = no_minute}
+    (λ e. leb-true (printed_minute (part s at 16)) last_minute e) (λ e. omega arith)
 
 pub power-small : (s : List ℕ) (at : ℕ) → (power_at s at).value < 4294967296
 unfolding power_at
@@ -117,7 +119,7 @@ module _ (form : List ℕ) where
   parts j = part_in form (grid_of l) (point_at form l.points_at j)
 
   abbrev bits : ℕ → ℕ
-  bits j = (power_at form ((Rattle.form_reading.specs.Reading.number_at form (point_at form l.points_at j + 6)).next + 1)).value
+  bits j = (power_at form ((number_at form (point_at form l.points_at j + 6)).next + 1)).value
 
   small : Small l.head
   unfolding lines_in code_lines_in mark_lines_in date_lines_in

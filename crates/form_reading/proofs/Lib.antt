@@ -12,3 +12,4 @@ pub mod ReadBytes
 pub mod LinesBack
 pub mod Round
 pub mod Decoded
+pub mod Standing

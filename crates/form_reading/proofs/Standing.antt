@@ -1,0 +1,72 @@
+-- A text that stands somewhere in a list, one text after another, and a whole list. Assumes nothing.
+use Prim.Native.Nat.{ℕ, ◌+◌}
+use mathlib.Core.Path.{◌≡◌, refl, ap, sym, ◌∙◌}
+use mathlib.Core.Bool.{Bool, true, false, ◌&&◌}
+use mathlib.Core.List.{List, ◌++◌, append_assoc}
+use native.Mathlib.Omega.{arith}
+use lib.Dec.{eqb}
+use lib.ListN.{length, drop, length-append, take-append-drop}
+use lib.Seq.{drop-drop, take_at, take_all}
+use borrow.Author.Tests.{eqb-true, eq-eqb}
+use Rattle.fields.specs.Lists.{part, same_list}
+use Rattle.fields.proofs.Bools.{and_left, and_right, and_both, both_ways}
+use Rattle.fields.proofs.Tests.{same-list-true, same-list-self}
+use Rattle.form_reading.specs.Spelled.{stands, Told}
+use Rattle.form_reading.proofs.Values.{past}
+
+-- what stands there, and what comes after it
+pub stands-there : (x s : List ℕ) (at : ℕ) → stands x s at ≡ true → drop at s ≡ x ++ drop (at + length x) s
+unfolding part
+stands-there x s at e =
+    let same = same-list-true x (part s at (length x)) e in
+    let split = sym (take-append-drop (length x) (drop at s)) in
+    split ∙ rw (← same, drop-drop (length x) at s)
+
+pub there-stands : (x s rest : List ℕ) (at : ℕ) → drop at s ≡ x ++ rest → stands x s at ≡ true
+unfolding part
+there-stands x s rest at e = rw (e, take_at x rest (length x) refl) (same-list-self x)
+
+-- one text and then another
+pub stands-then : (x y s : List ℕ) (at : ℕ) → stands (x ++ y) s at ≡ (stands x s at && stands y s (at + length x))
+stands-then x y s at =
+    let a = stands x s at in
+    let b = stands y s (at + length x) in
+    both_ways (stands (x ++ y) s at) (a && b)
+    (λ e.
+    let rest = drop (at + length (x ++ y)) s in
+    let there = stands-there (x ++ y) s at e ∙ append_assoc x y rest in
+    and_both (there-stands x s (y ++ rest) at there) (there-stands y s rest (at + length x) (past s at x (y ++ rest) there)))
+    (λ e.
+    let rest = drop (at + length x + length y) s in
+    let there = stands-there x s at (and_left a b e)
+    ∙ ap (λ (l : List ℕ). x ++ l) (stands-there y s (at + length x) (and_right a b e)) in
+    there-stands (x ++ y) s rest at (there ∙ sym (append_assoc x y rest)))
+
+-- the whole list
+pub same-all : (x s : List ℕ) → same_list x s ≡ (stands x s 0 && eqb (length x) (length s))
+unfolding part
+same-all x s =
+    let a = stands x s 0 in
+    let b = eqb (length x) (length s) in
+    both_ways (same_list x s) (a && b)
+    (λ e.
+    let same = same-list-true x s e in
+    and_both (rw (← same, take_all (length x) x (omega arith)) (same-list-self x)) (eq-eqb (length x) (length s) (ap length same)))
+    (λ e.
+    let long = eqb-true (length x) (length s) (and_right a b e) in
+    rw (take_all (length x) s (omega (arith, long))) at (and_left a b e))
+
+-- what is asked only where another test holds
+pub and-same : (a p q : Bool) → (a ≡ true → p ≡ q) → (a && p) ≡ (a && q)
+and-same true p q h = h refl
+and-same false p q h = refl
+
+-- two texts told one after the other
+pub told_then : {x y s : List ℕ} {at mid next : ℕ} {a b : Bool} → Told x s at a mid → Told y s mid b next → Told (x ++ y) s at (a && b) next
+told_then {x} {y} {s} {at} {mid} {next} {a} {b} p q =
+    let second : a ≡ true → b ≡ stands y s (at + length x) = λ e. q.told ∙ ap (stands y s) (p.after e) in
+    record {
+      told = and-same a b (stands y s (at + length x)) second ∙ ap (λ (t : Bool). t && stands y s (at + length x)) p.told
+          ∙ sym (stands-then x y s at);
+      after = λ e. q.after (and_right a b e) ∙ rw (p.after (and_left a b e), length-append x y) (omega arith);
+    }
