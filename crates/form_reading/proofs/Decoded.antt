@@ -29,7 +29,7 @@ use Rattle.form_reading.specs.declared.Lines.{Lines}
 use Rattle.form_reading.specs.Reading.{number_at, power_at, minute_or_0, date_at, hex_byte, code_lines_in, mark_lines_in, date_lines_in, point_in, point_at, is_point, part_in, parts_in, grid_of, lines_in, report_by, report_of}
 use Rattle.report.specs.declared.Head.{Head}
 use Rattle.report.specs.declared.Part.{Part}
-use Rattle.report.specs.Report.{text_mark, part_start, head_of, part_at, parts_of}
+use Rattle.report.specs.Report.{text_mark, part_start, part_count_of, head_of, part_at, parts_of}
 use Rattle.report.specs.Encoded.{encode_head, encode_part, encode_parts, encode_report}
 use Rattle.form_reading.proofs.ReadBytes.{head-long, text-there, count-there, part-most, few, short, identified}
 use Rattle.report.proofs.Encoding.{Small, named, head-back}
@@ -142,3 +142,32 @@ module _ (form : List ℕ) where
     power = refl;
     small = power-small form _;
   }
+
+  abbrev text : List ℕ
+  text = part form l.text_at l.head.text_length
+
+  abbrev identifier : ℕ → ℕ
+  identifier = hex_byte form (identified form).0
+
+  same-report : report_of form ≡ report l.head identifier parts l.head.part_count text
+  unfolding report_by
+  same-report = ap (λ (h : Head). encode_report h (series parts 0 l.head.part_count) text) (identified form).1
+
+  pub head-decoded : head_of (report_of form) ≡ l.head
+  head-decoded =
+      ap head_of same-report ∙ head-back l.head identifier (series parts 0 l.head.part_count) text small ∙ sym (identified form).1
+
+  pub parts-decoded : parts_of (report_of form) ≡ parts_in form (grid_of l) l.points_at l.head.part_count
+  parts-decoded =
+      let k = l.head.part_count in
+      let r = report l.head identifier parts k text in
+      let count : part_count_of r ≡ k = count-there l.head identifier (series parts 0 k) text (omega (arith, few form)) in
+      ap parts_of same-report ∙ ap (series (part_at r) 0) count
+      ∙ parts-back l.head identifier parts k text bits 0 k (omega arith) (λ j _. part-fits j)
+
+  pub text-decoded : text_of (report_of form) ≡ text
+  text-decoded =
+      let k = l.head.part_count in
+      let most = part-most form l.text_at l.head.text_length in
+      ap text_of same-report
+      ∙ text-there l.head identifier (series parts 0 k) text (sym (series-length parts 0 k)) (omega (arith, few form)) most (omega (arith, short form))
