@@ -8,6 +8,10 @@ pub mod Scanned
 pub mod Counted
 pub mod PartsPut
 pub mod Reports
+pub mod Reports
+pub mod Scanned
+pub mod Counted
+pub mod PartsPut
 pub mod ReadBytes
 pub mod LinesBack
 pub mod Round
