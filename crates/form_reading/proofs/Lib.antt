@@ -8,12 +8,9 @@ pub mod Scanned
 pub mod Counted
 pub mod PartsPut
 pub mod Reports
-pub mod Reports
-pub mod Scanned
-pub mod Counted
-pub mod PartsPut
 pub mod ReadBytes
 pub mod LinesBack
 pub mod Round
 pub mod Decoded
 pub mod Standing
+pub mod FormRead

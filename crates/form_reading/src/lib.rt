@@ -2,19 +2,24 @@
 #![tactic(auto)]
 
 ghost use Rattle.std.specs.Prelude.{◌≡◌, ℕ, ◌+◌, ◌*◌, ◌-◌, ◌≤◌, ◌<◌, ◌%◌, ◌++◌, true, List, length, Ok};
-ghost use Rattle.fields.specs.Lists.{pick, part, series};
+ghost use Rattle.fields.specs.Lists.{pick, part, series, same_list};
 ghost use Rattle.report.specs.Report.{head_of, parts_of};
 ghost use Rattle.report.specs.Encoded.{encode_head, encode_parts};
-ghost use Rattle.texts.specs.Texts.{Writes};
+ghost use Rattle.texts.specs.Texts.{Writes, Puts};
 ghost use Rattle.forms.specs.Form.{text_of, has_form, all_fall, resolution_of, form_at, form_of, IsFormOf};
+ghost use Rattle.forms.specs.Lent.{length_given, buffer_after};
 ghost use Rattle.form_reading.specs.Reading.{is_digit, number_at, number_in, power_at, hex_value, hex_byte, date_at};
 ghost use Rattle.form_reading.specs.Reading.{code_lines_in, mark_lines_in, date_lines_in, resolution_in, is_point, point_in, point_at, point_count};
-ghost use Rattle.form_reading.specs.Reading.{text_length_in, lines_in, head_by, minute_of, grid_of, parts_in, report_by};
-ghost use Rattle.form_reading.specs.Reading.{no_report, form_read, AreBytes};
+ghost use Rattle.form_reading.specs.Reading.{text_length_in, lines_in, head_by, minute_of, grid_of, parts_in, report_by, report_of};
+ghost use Rattle.form_reading.specs.Reading.{is_form_of, no_report, form_read, AreBytes};
 
+use forms::{FormError, MOST_FORM};
 use quantities::{Minute, Period, SignedKilowatt};
 use report::{Direction, Head, MOST_PARTS, Mark, Operation, Part, RecordType};
 use texts::Text;
+
+// No report is longer.
+const MOST_REPORT: usize = 1850;
 
 // A number that was read, and the place after it.
 #[derive(Clone, Copy)]
@@ -447,3 +452,51 @@ pub fn finer_forms_are_refused()
         → all_fall (head_of s) (parts_of s) step ≡ true → (step ≡ resolution_of (head_of s) (parts_of s) → ⊥)
         → form_read (form_at step (head_of s) (parts_of s) (text_of s)) ≡ no_report }
 {}
+
+// The report that the form's lines say, at the start of the bytes; its length.
+fn put_report_of(form: &[u8], bytes: &mut [u8]) -> usize
+    ensures { Puts 1850 bytes.old (report_of form.now) bytes.new result }
+{
+    let mut report = Text::new(bytes);
+    put_report(&mut report, form, lines_in(form));
+    report.end()
+}
+
+#[tactic(auto, using(crate::proofs::FormRead::same_bytes))]
+fn same_bytes(a: &[u8], b: &[u8]) -> bool
+    ensures { result ≡ same_list a.now b.now }
+{
+    a == b
+}
+
+// The report has this form.
+fn is_form_of(form: &[u8], report: &[u8]) -> bool
+    ensures { result ≡ is_form_of form.now report.now }
+{
+    let mut scratch = [0u8; MOST_FORM];
+    match forms::form_in(report, &mut scratch) {
+        Ok(text) => same_bytes(text, form),
+        Err(_) => false,
+    }
+}
+
+// The report that the form's lines say, at the start of the scratch.
+fn report_in<'a>(form: &[u8], scratch: &'a mut [u8; MOST_REPORT]) -> &'a [u8]
+    ensures { result.now ≡ report_of form.now }
+{
+    let end = put_report_of(form, scratch);
+    &scratch[..end]
+}
+
+// The report of a form at the start of a lent buffer, whose other bytes stay: its length, or 24, then 43.
+pub fn read_form(form: &[u8], report: &mut [u8]) -> Result<usize, FormError>
+    ensures value { result ≡ length_given (form_read form.now) report.old }
+    ensures report_after { report.new ≡ buffer_after (form_read form.now) report.old }
+{
+    let mut scratch = [0u8; MOST_REPORT];
+    let found = report_in(form, &mut scratch);
+    if !is_form_of(form, found) {
+        return Err(FormError::NotAForm);
+    }
+    forms::lay(found, report)
+}

@@ -50,7 +50,7 @@ same_text e h p = rw (← e) record {
 
 -- a whole text, from the start of the buffer
 pub all_put : {n : ℕ} {a b : Text} {x here there : List ℕ} (m : ℕ) → a.bytes.now ≡ here → a.end ≡ 0 → Writes m a x b
-    → there ≡ b.bytes.now → m ≤ n → m ≤ 1024 → Puts n here x there b.end
+    → there ≡ b.bytes.now → m ≤ n → m ≤ last_place → Puts n here x there b.end
 all_put {x = x} m at-first from-start p ends h less = record {
   upper_bound = rw (p.end, from-start) (omega (arith, p.upper_bound, h));
   value = p.end ∙ rw from-start (omega (arith, p.upper_bound, less));
