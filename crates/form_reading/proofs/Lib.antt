@@ -14,3 +14,4 @@ pub mod Round
 pub mod Decoded
 pub mod Standing
 pub mod FormRead
+pub mod OwnForm
