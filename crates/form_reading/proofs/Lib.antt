@@ -13,3 +13,4 @@ pub mod ReadBytes
 pub mod LinesBack
 pub mod Round
 pub mod Standing
+pub mod PlainDigits
