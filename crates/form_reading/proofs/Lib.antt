@@ -14,3 +14,4 @@ pub mod LinesBack
 pub mod Round
 pub mod Standing
 pub mod PlainDigits
+pub mod SpelledNumbers

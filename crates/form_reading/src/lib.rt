@@ -12,6 +12,8 @@ ghost use Rattle.form_reading.specs.Reading.{code_lines_in, mark_lines_in, date_
 ghost use Rattle.form_reading.specs.Reading.{text_length_in, lines_in, head_by, minute_of, grid_of, parts_in, report_by};
 ghost use Rattle.form_reading.specs.Reading.{no_report, form_read, AreBytes};
 
+mod spelled;
+
 use quantities::{Minute, Period, SignedKilowatt};
 use report::{Direction, Head, MOST_PARTS, Mark, Operation, Part, RecordType};
 use texts::Text;
