@@ -15,3 +15,5 @@ pub mod Decoded
 pub mod Standing
 pub mod FormRead
 pub mod OwnForm
+pub mod PlainDigits
+pub mod SpelledNumbers

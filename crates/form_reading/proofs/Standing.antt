@@ -2,10 +2,11 @@
 use Prim.Native.Nat.{ℕ, ◌+◌}
 use mathlib.Core.Path.{◌≡◌, refl, ap, sym, ◌∙◌}
 use mathlib.Core.Bool.{Bool, true, false, ◌&&◌}
-use mathlib.Core.List.{List, ◌++◌, append_assoc}
+use mathlib.Core.List.{List, [], ◌∷◌, ◌++◌, append_assoc}
 use native.Mathlib.Omega.{arith}
 use lib.Dec.{eqb}
-use lib.ListN.{length, drop, length-append, take-append-drop}
+use lib.ListN.{length, take, drop, length-append, take-append-drop}
+use lib.Pointwise.{pointwise}
 use lib.Seq.{drop-drop, take_at, take_all}
 use borrow.Author.Tests.{eqb-true, eq-eqb}
 use Rattle.fields.specs.Lists.{part, same_list}
@@ -70,3 +71,15 @@ told_then {x} {y} {s} {at} {mid} {next} {a} {b} p q =
           ∙ sym (stands-then x y s at);
       after = λ e. q.after (and_right a b e) ∙ rw (p.after (and_left a b e), length-append x y) (omega arith);
     }
+
+-- what a slice begins with
+same-pointwise : (a b : List ℕ) → pointwise eqb a b ≡ same_list a b
+unfolding same_list
+same-pointwise [] [] = refl
+same-pointwise [] (y ∷ ys) = refl
+same-pointwise (x ∷ xs) [] = refl
+same-pointwise (x ∷ xs) (y ∷ ys) = ap (λ (t : Bool). eqb x y && t) (same-pointwise xs ys)
+
+pub stands_first : {r : Bool} (x s rest : List ℕ) (at : ℕ) → rest ≡ drop at s → r ≡ pointwise eqb x (take (length x) rest) → r ≡ stands x s at
+unfolding part
+stands_first x s rest at e q = q ∙ rw e (same-pointwise x (take (length x) (drop at s)))

@@ -53,7 +53,7 @@ line_past s at name value rest e =
     (past s (at + length name) value (10 ∷ rest) (value_there s at name value rest e))
 
 -- decimal digits
-digit-step : (k : ℕ) (s : List ℕ) (at m d : ℕ) → u8_at s at ≡ 48 + d → d < 10
+pub digit-step : (k : ℕ) (s : List ℕ) (at m d : ℕ) → u8_at s at ≡ 48 + d → d < 10
     → digits_at (suc k) s at m ≡ digits_at k s (at + 1) (10 * m + d)
 unfolding digits_at pick
 digit-step k s at m d e l =

@@ -13,6 +13,8 @@ ghost use Rattle.form_reading.specs.Reading.{code_lines_in, mark_lines_in, date_
 ghost use Rattle.form_reading.specs.Reading.{text_length_in, lines_in, head_by, minute_of, grid_of, parts_in, report_by, report_of};
 ghost use Rattle.form_reading.specs.Reading.{is_form_of, no_report, form_read, AreBytes};
 
+mod spelled;
+
 use forms::{FormError, MOST_FORM};
 use quantities::{Minute, Period, SignedKilowatt};
 use report::{Direction, Head, MOST_PARTS, Mark, Operation, Part, RecordType};
