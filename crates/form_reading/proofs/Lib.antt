@@ -17,3 +17,4 @@ pub mod FormRead
 pub mod OwnForm
 pub mod PlainDigits
 pub mod SpelledNumbers
+pub mod SpelledDigits
