@@ -18,3 +18,4 @@ pub mod OwnForm
 pub mod PlainDigits
 pub mod SpelledNumbers
 pub mod SpelledDigits
+pub mod Positions
