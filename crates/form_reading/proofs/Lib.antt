@@ -19,3 +19,4 @@ pub mod PlainDigits
 pub mod SpelledNumbers
 pub mod SpelledDigits
 pub mod Positions
+pub mod SpelledPowers

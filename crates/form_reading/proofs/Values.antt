@@ -207,7 +207,7 @@ identifier-back s at bytes rest long small e =
     rw long at (bytes-back s at 0 bytes rest small (rw z e))
 
 -- kW
-no-hyphen : (s : List ℕ) (at n c : ℕ) (rest : List ℕ) → drop at s ≡ decimal n ++ (c ∷ rest) → is_digit c ≡ false
+pub no-hyphen : (s : List ℕ) (at n c : ℕ) (rest : List ℕ) → drop at s ≡ decimal n ++ (c ∷ rest) → is_digit c ≡ false
     → n < 10000000000 → eqb (u8_at s at) 45 ≡ false
 unfolding number_at
 no-hyphen s at n c rest e d l =
