@@ -20,3 +20,4 @@ pub mod SpelledNumbers
 pub mod SpelledDigits
 pub mod Positions
 pub mod SpelledPowers
+pub mod SpelledPoints

@@ -32,8 +32,9 @@ told-never {x} {s} {at} {t = t} a b = record {
   after = λ e. absurd (a e);
 }
 
-told-if : {x s : List ℕ} {at next : ℕ} {t u : Bool} → t ≡ u → Told x s at t next → Told x s at u next
-told-if e p = rw (← e) p
+-- the same text and the same test
+pub told_as : {x y s : List ℕ} {at next : ℕ} {t u : Bool} → x ≡ y → t ≡ u → Told x s at t next → Told y s at u next
+told_as e q p = rw (← e, ← q) p
 
 byte-told : (s : List ℕ) (at c : ℕ) → 1 ≤ c → Told (c ∷ []) s at (eqb (u8_at s at) c) (at + 1)
 byte-told s at c l = record {
@@ -134,5 +135,16 @@ module _ (s : List ℕ) (at : ℕ) where
         (λ (high : 2147483648 ≤ u).
         let q = 4294967296 - u in
         let both = told_then (byte-told s at 45 (omega arith)) (digits_told s (at + 1) q 10 refl (omega arith) (omega arith)) in
-        rw (minus-written u high (omega arith), ← minus-large high) (told-if (ap (λ (t : Bool). t && (is_plain (u8_at s (at + 1)) (eqb m.next (at + 1 + 1)) && eqb q m.value && eqb (u8_at s m.next) 10)) hyphen) both))
+        rw (minus-written u high (omega arith), ← minus-large high) (told_as refl (ap (λ (t : Bool). t && (is_plain (u8_at s (at + 1)) (eqb m.next (at + 1 + 1)) && eqb q m.value && eqb (u8_at s m.next) 10)) hyphen) both))
         (lt-or-le u 2147483648)
+
+-- the same, as code tells it
+module _ {s : List ℕ} {at c d : ℕ} {p : Bool} {n : Numeral} (stop : d ≡ u8_at s n.next) where
+  pub plus_told : eqb (u8_at s at) 45 ≡ false → n ≡ number_at s at → c ≡ u8_at s at → p ≡ is_plain c (eqb n.next (at + 1))
+      → Told (signed_decimal (to_z w32 (n.value % 4294967296)) ++ (10 ∷ [])) s at (p && ltb n.value 2147483648 && eqb d 10) (n.next + 1)
+  plus_told digits read here plain = rw (stop, plain, here, read) (plus-told s at digits)
+
+  pub minus_told : {v : ℕ} → eqb (u8_at s at) 45 ≡ true → n ≡ number_at s (at + 1) → c ≡ u8_at s (at + 1)
+      → p ≡ is_plain c (eqb n.next (at + 1 + 1)) → v ≡ (4294967296 - n.value) % 4294967296
+      → Told (signed_decimal (to_z w32 v) ++ (10 ∷ [])) s at (p && (leb 1 n.value && leb n.value 2147483648) && eqb d 10) (n.next + 1)
+  minus_told hyphen read here plain value = rw (stop, plain, here, value, read) (minus-told s at hyphen)

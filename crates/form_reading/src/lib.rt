@@ -14,6 +14,7 @@ ghost use Rattle.form_reading.specs.Reading.{text_length_in, lines_in, head_by, 
 ghost use Rattle.form_reading.specs.Reading.{is_form_of, no_report, form_read, AreBytes};
 
 mod spelled;
+mod spelled_points;
 
 use forms::{FormError, MOST_FORM};
 use quantities::{Minute, Period, SignedKilowatt};
