@@ -1,16 +1,15 @@
 -- The report that a form's lines give is decoded to what they gave. Assumes nothing.
-use Prim.Native.Nat.{ℕ, zero, suc, ◌+◌, ◌-◌, ◌*◌, ◌%◌, ◌≤◌, ◌<◌}
+use Prim.Native.Nat.{ℕ, zero, suc, ◌+◌, ◌-◌, ◌*◌, ◌≤◌, ◌<◌}
 use mathlib.Core.Path.{◌≡◌, refl, ap, sym, ◌∙◌}
-use mathlib.Core.Bool.{true}
-use mathlib.Core.List.{List, [], ◌∷◌, ◌++◌, append_assoc}
+use mathlib.Core.List.{List, [], ◌++◌, append_assoc}
 use native.Mathlib.Omega.{arith}
 use native.Mathlib.Nat.{zero-add}
-use lib.ListN.{length, drop}
+use lib.ListN.{drop}
 use lib.Seq.{drop-drop, drop_at}
 use mir.Syntax.{w32}
 use mir.Val.{to_z, of_z}
 use Rattle.std.proofs.lemmas.Int.{of_z-to_z}
-use Rattle.fields.specs.Fields.{u32_at, uint_at, bytes_of}
+use Rattle.fields.specs.Fields.{u32_at, bytes_of}
 use Rattle.fields.specs.Lists.{part, series}
 use Rattle.fields.proofs.Numbers.{uint-found}
 use Rattle.fields.proofs.Bools.{pick-elim}
@@ -24,9 +23,8 @@ use lib.Dec.{leb}
 use Rattle.std.specs.Prelude.{Result}
 use Rattle.forms.specs.Form.{text_of}
 use Rattle.form_reading.specs.declared.Numeral.{Numeral}
-use Rattle.form_reading.specs.declared.Grid.{Grid}
 use Rattle.form_reading.specs.declared.Lines.{Lines}
-use Rattle.form_reading.specs.Reading.{number_at, power_at, minute_or_0, date_at, hex_byte, code_lines_in, mark_lines_in, date_lines_in, point_in, point_at, is_point, part_in, parts_in, grid_of, lines_in, report_by, report_of}
+use Rattle.form_reading.specs.Reading.{number_at, power_at, minute_or_0, date_at, hex_byte, code_lines_in, mark_lines_in, date_lines_in, point_in, point_at, part_in, parts_in, grid_of, lines_in, report_by, report_of}
 use Rattle.report.specs.declared.Head.{Head}
 use Rattle.report.specs.declared.Part.{Part}
 use Rattle.report.specs.Report.{text_mark, part_start, part_count_of, head_of, part_at, parts_of}

@@ -2,7 +2,7 @@
 use Prim.Native.Nat.{ℕ, ◌≤◌, ◌<◌}
 use mathlib.Core.Path.{◌≡◌, refl, ap, sym, ◌∙◌}
 use mathlib.Core.Bool.{Bool, true, false, ◌&&◌, ◌||◌}
-use mathlib.Core.List.{List, [], ◌∷◌, ◌++◌}
+use mathlib.Core.List.{List, [], ◌∷◌}
 use mathlib.Core.Logic.{⊎_elim}
 use native.Mathlib.Omega.{arith}
 use lib.Dec.{eqb}
@@ -13,8 +13,8 @@ use Rattle.fields.proofs.Bools.{and_left, and_right, and_both, both_ways, or_cas
 use Rattle.fields.proofs.Tests.{same-list-true, same-list-self, series-length}
 use Rattle.report.specs.declared.Head.{Head}
 use Rattle.report.specs.declared.Part.{Part}
-use Rattle.report.specs.Report.{head_of, parts_of}
-use Rattle.forms.specs.Form.{text_of, has_form, resolution_of, part_lines, form_at, form_of}
+use Rattle.report.specs.Report.{parts_of}
+use Rattle.forms.specs.Form.{has_form, resolution_of, part_lines, form_at, form_of}
 use Rattle.form_reading.specs.declared.Lines.{Lines}
 use Rattle.form_reading.specs.Reading.{lines_in, report_of, is_form_of, grid_of, parts_in}
 use Rattle.form_reading.specs.SpelledForm.{own_form, is_own_form}

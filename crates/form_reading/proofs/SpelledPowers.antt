@@ -13,12 +13,12 @@ use mir.Val.{to_z}
 use mir.ValLaws.{to_z_pos, to_z-neg}
 use borrow.Author.Tests.{eqb-true, eq-eqb, ltb-true, lt-ltb, leb-true, le-leb}
 use Rattle.fields.specs.Fields.{u8_at}
-use Rattle.fields.specs.Lists.{pick, part}
-use Rattle.fields.proofs.Bools.{and_left, and_right, and_both, both_ways, pick-elim, lt-or-le}
+use Rattle.fields.specs.Lists.{pick}
+use Rattle.fields.proofs.Bools.{and_left, and_right, and_both, both_ways, lt-or-le}
 use Rattle.texts.specs.Numerals.{decimal}
 use Rattle.forms.specs.Values.{signed_decimal}
 use Rattle.form_reading.specs.declared.Numeral.{Numeral}
-use Rattle.form_reading.specs.Reading.{number_at, power_at}
+use Rattle.form_reading.specs.Reading.{number_at}
 use Rattle.form_reading.specs.Spelled.{stands, is_plain, Told}
 use Rattle.form_reading.proofs.Values.{first, no-hyphen}
 use Rattle.form_reading.proofs.Standing.{stands-there, there-stands, told_then}
@@ -106,9 +106,10 @@ module _ (s : List ℕ) (at : ℕ) where
     minus = is_plain (u8_at s (at + 1)) (eqb m.next (at + 1 + 1)) && in_range && eqb (u8_at s m.next) 10
 
     minus-range : in_range ≡ true → (1 ≤ m.value) × (m.value ≤ 2147483648)
-    minus-range e =
-        (leb-true 1 m.value (and_left (leb 1 m.value) (leb m.value 2147483648) e),
-        leb-true m.value 2147483648 (and_right (leb 1 m.value) (leb m.value 2147483648) e))
+    minus-range e = (
+      leb-true 1 m.value (and_left (leb 1 m.value) (leb m.value 2147483648) e),
+      leb-true m.value 2147483648 (and_right (leb 1 m.value) (leb m.value 2147483648) e),
+    )
 
     minus-large : 2147483648 ≤ u → eqb (4294967296 - u) m.value ≡ in_range
     minus-large l =

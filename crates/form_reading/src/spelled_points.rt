@@ -12,8 +12,9 @@ ghost use Rattle.form_reading.specs.Spelled.{Told};
 ghost use Rattle.form_reading.specs.SpelledPoint.{is_position};
 
 use crate::spelled::{is_plain, stands};
-use crate::{Grid, Numeral, Point, number_at, opposite};
+use crate::{Grid, Numeral, Point, Points, is_point, number_at, opposite};
 use quantities::SignedKilowatt;
+use report::MOST_PARTS;
 
 // A power without a hyphen, before a line feed, and the place after that.
 #[tactic(auto, unfolding(crate::specs::Reading::power_at, fields::specs::Lists::pick))]
@@ -65,4 +66,65 @@ fn spelled_power(s: &[u8], at: usize) -> (Numeral, bool)
         return minus_at(s, at);
     }
     plus_at(s, at)
+}
+
+// A position that its minute gives back.
+fn is_position(grid: Grid, position: u64) -> bool
+    requires { position < 10000000000 }
+    ensures value { result ≡ is_position grid position }
+    ensures early { grid.period.start.0 < 4294967296 }
+{
+    let after = position.saturating_sub(1) * u64::from(grid.step);
+    (1 <= position)
+        & ((1 <= grid.step) | (position == 1))
+        & (u64::from(grid.period.start.0) + after < 4294967296)
+}
+
+// The point whose line is at `at`.
+#[tactic(auto, unfolding(crate::specs::Reading::point_in))]
+fn spelled_point(s: &[u8], at: usize, grid: Grid) -> (Point, bool)
+    requires { at ≤ 8192 }
+    ensures read { result.0 ≡ point_in s.now at }
+    ensures told { (h : Head) → h.period ≡ grid.period → Told (point_line h grid.step (part_in s.now grid at)) s.now at result.1 result.0.next }
+    ensures bounds { (result.0.position < 10000000000) × (result.0.next ≤ at + 29) }
+{
+    let digits = at + 6;
+    let n = number_at(s, digits);
+    let (power, power_spelled) = spelled_power(s, n.next + 1);
+    let spelled = stands(b"point=", s, at)
+        & is_plain(fields::u8_at(s, digits), n.next == digits + 1)
+        & is_position(grid, n.value)
+        & (fields::u8_at(s, n.next) == b' ')
+        & power_spelled;
+    let point = Point {
+        position: n.value,
+        power: SignedKilowatt((power.value as u32).cast_signed()),
+        next: power.next,
+    };
+    (point, spelled)
+}
+
+// The points from `at` on.
+pub(crate) fn spelled_points(s: &[u8], at: usize, grid: Grid) -> (Points, bool)
+    requires { at ≤ 310 }
+    ensures count { result.0.count ≡ point_count s.now at }
+    ensures next { result.0.next ≡ point_at s.now at result.0.count }
+    ensures told { (h : Head) → h.period ≡ grid.period → Told (point_lines h grid.step (parts_in s.now grid at result.0.count)) s.now at result.1 result.0.next }
+    ensures bounds { (result.0.count ≤ 100) × (result.0.next ≤ 3210) }
+{
+    let mut next = at;
+    let mut spelled = true;
+    for j in 0..MOST_PARTS {
+        if !is_point(s, next) {
+            return (Points { count: j, next }, spelled);
+        }
+        let (point, here) = spelled_point(s, next, grid);
+        spelled = spelled & here;
+        next = point.next;
+    }
+    let points = Points {
+        count: MOST_PARTS,
+        next,
+    };
+    (points, spelled)
 }

@@ -103,7 +103,7 @@ hex-more {j = j} {v = v} bytes l same p q =
     rw (s, take-suc bytes j 0 l, ← same, hex-append (take j bytes) (v ∷ [])) (then p q)
 
 -- points, one more
-points-append : (h : Head) (step : ℕ) (ps qs : List Part) → point_lines h step (ps ++ qs) ≡ point_lines h step ps ++ point_lines h step qs
+pub points-append : (h : Head) (step : ℕ) (ps qs : List Part) → point_lines h step (ps ++ qs) ≡ point_lines h step ps ++ point_lines h step qs
 unfolding point_lines
 points-append h step [] qs = refl
 points-append h step (p ∷ ps) qs =
