@@ -1,10 +1,10 @@
 // Lines that are told to be spelled as they are written, while they are read.
 ghost use Rattle.std.specs.Prelude.{◌≡◌, ℕ, ◌+◌, ◌≤◌, ◌<◌, ◌%◌, length};
 ghost use Rattle.forms.specs.Values.{number_line};
-ghost use Rattle.form_reading.specs.Reading.{number_in};
-ghost use Rattle.form_reading.specs.Spelled.{stands, is_plain, Told};
+ghost use Rattle.form_reading.specs.Reading.{number_in, code_lines_in};
+ghost use Rattle.form_reading.specs.Spelled.{stands, is_plain, Told, code_text};
 
-use crate::{Numeral, number_at};
+use crate::{CodeLines, Numeral, number_at};
 
 // Whether x stands in s at `at`.
 #[inline(always)]
@@ -44,4 +44,26 @@ pub(crate) fn number_line(name: &[u8], limit: u64, s: &[u8], at: usize) -> (Nume
         next: n.next + 1,
     };
     (number, spelled)
+}
+
+#[tactic(auto, unfolding(crate::specs::Reading::code_lines_in))]
+pub(crate) fn code_lines(s: &[u8]) -> (CodeLines, bool)
+    ensures read { result.0 ≡ code_lines_in s.now }
+    ensures spelled { Told (code_text result.0) s.now 0 result.1 result.0.next }
+    ensures bounds { result.0.next ≤ 91 }
+{
+    let (unit, a) = number_line(b"unit=", 65536, s, 0);
+    let (owner, b) = number_line(b"owner=", 65536, s, unit.next);
+    let (record_type, c) = number_line(b"type=", 256, s, owner.next);
+    let (operation, d) = number_line(b"operation=", 256, s, record_type.next);
+    let (direction, e) = number_line(b"direction=", 256, s, operation.next);
+    let lines = CodeLines {
+        unit: (unit.value % 65536) as u16,
+        owner: (owner.value % 65536) as u16,
+        record_type: (record_type.value % 256) as u8,
+        operation: (operation.value % 256) as u8,
+        direction: (direction.value % 256) as u8,
+        next: direction.next,
+    };
+    (lines, a & b & c & d & e)
 }
