@@ -15,3 +15,5 @@ pub mod Round
 pub mod Standing
 pub mod PlainDigits
 pub mod SpelledNumbers
+pub mod SpelledBytes
+pub mod SpelledDates

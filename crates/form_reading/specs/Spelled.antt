@@ -1,6 +1,6 @@
 -- A form told line by line: whether each line is spelled as it is written. This says the same as `is_form_of`, by the proofs, so that
 -- nothing here has to be believed.
-use Rattle.std.specs.Prelude.{◌≡◌, ℕ, ◌+◌, Bool, true, List, ◌++◌, length, eqb}
+use Rattle.std.specs.Prelude.{◌≡◌, ℕ, ◌+◌, Bool, true, ◌&&◌, ◌||◌, List, ◌++◌, length, eqb, leb}
 use Rattle.fields.specs.Lists.{pick, part, same_list}
 use Rattle.fields.specs.Ascii.{ascii}
 use Rattle.forms.specs.Values.{line, number_line, date_line, hex_text}
@@ -21,6 +21,10 @@ pub record Told (x s : List ℕ) (at : ℕ) (spelled : Bool) (next : ℕ) : Type
 -- digits are spelled as a number is: there is a first one, and it is no 0 unless it is the only one
 unfoldable pub is_plain : ℕ → Bool → Bool
 is_plain first only_one = pick (eqb first 48) only_one (is_digit first)
+
+-- 0 to 9 and a to f
+abbrev pub is_hex : ℕ → Bool
+is_hex c = is_digit c || (leb 97 c && leb c 102)
 
 -- the lines of a head, by what was read of each
 abbrev pub code_text : CodeLines → List ℕ
