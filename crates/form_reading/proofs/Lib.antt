@@ -17,3 +17,4 @@ pub mod PlainDigits
 pub mod SpelledNumbers
 pub mod SpelledBytes
 pub mod SpelledDates
+pub mod SpelledHead
