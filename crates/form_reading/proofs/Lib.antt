@@ -21,3 +21,6 @@ pub mod SpelledDigits
 pub mod Positions
 pub mod SpelledPowers
 pub mod SpelledPoints
+pub mod SpelledBytes
+pub mod SpelledDates
+pub mod SpelledHead

@@ -6,12 +6,9 @@ use mathlib.Core.List.{List, [], ◌∷◌, ◌++◌, append_assoc}
 use mathlib.Core.Logic.{⊎_elim}
 use native.Mathlib.Omega.{arith}
 use native.Mathlib.Nat.{pow-suc, pow-le-pow_right, div-lt_iff_lt-mul}
-use native.Mathlib.Numerals.{add-one}
 use lib.Dec.{eqb, lit<}
 use lib.ListN.{length, drop}
-use lib.Seq.{drop-cons}
 use borrow.Author.Tests.{eqb-true, eqb-false, eq-eqb, ne_eqb}
-use Rattle.std.proofs.lemmas.List.{get_or_past}
 use Rattle.fields.specs.Fields.{u8_at}
 use Rattle.fields.specs.Lists.{pick}
 use Rattle.fields.proofs.Bools.{pick-elim, range-true, range-intro, lt-or-le}
@@ -22,16 +19,8 @@ use Rattle.texts.proofs.Texts.{decimal-one, decimal-more}
 use Rattle.form_reading.specs.declared.Numeral.{Numeral}
 use Rattle.form_reading.specs.Reading.{is_digit, digits_at, number_at}
 use Rattle.form_reading.specs.Spelled.{is_plain}
+use Rattle.form_reading.proofs.Standing.{byte_there}
 use Rattle.form_reading.proofs.Values.{first, past, digit-step, number-back}
-
--- a byte that is not 0 is there
-pub byte_there : (s : List ℕ) (at c : ℕ) → u8_at s at ≡ c → 1 ≤ c → drop at s ≡ c ∷ drop (at + 1) s
-byte_there s at c e l =
-    ⊎_elim (λ (inside : at < length s). rw (drop-cons s at 0 inside, e, add-one))
-    (λ (out : length s ≤ at).
-    let none = get_or_past s at 0 out in
-    absurd (omega arith))
-    (lt-or-le at (length s))
 
 -- a number and a digit of a text
 below_next : (m d j : ℕ) → d ≤ 9 → m < 10 ^ j → 10 * m + d < 10 ^ suc j

@@ -14,8 +14,8 @@ use Rattle.form_reading.specs.declared.Numeral.{Numeral}
 use Rattle.form_reading.specs.Reading.{is_digit, number_at}
 use Rattle.form_reading.specs.Spelled.{stands, is_plain, Told}
 use Rattle.form_reading.proofs.Values.{number-back}
-use Rattle.form_reading.proofs.Standing.{stands-there, there-stands}
-use Rattle.form_reading.proofs.PlainDigits.{byte_there, plain-there, there-plain, there-stops}
+use Rattle.form_reading.proofs.Standing.{byte_there, stands-there, there-stands}
+use Rattle.form_reading.proofs.PlainDigits.{plain-there, there-plain, there-stops}
 
 -- a number q, as it is written, and a byte c behind it
 module _ (s : List ℕ) (at q c : ℕ) (stop : is_digit c ≡ false) (there : 1 ≤ c) (small : q < 10000000000) where

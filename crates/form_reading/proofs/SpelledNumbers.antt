@@ -16,8 +16,8 @@ use Rattle.form_reading.specs.declared.Numeral.{Numeral}
 use Rattle.form_reading.specs.Reading.{number_at}
 use Rattle.form_reading.specs.Spelled.{stands, is_plain, Told}
 use Rattle.form_reading.proofs.Values.{value_there, number-back}
-use Rattle.form_reading.proofs.Standing.{stands-there, there-stands}
-use Rattle.form_reading.proofs.PlainDigits.{byte_there, plain-there, there-plain, there-stops}
+use Rattle.form_reading.proofs.Standing.{byte_there, stands-there, there-stands}
+use Rattle.form_reading.proofs.PlainDigits.{plain-there, there-plain, there-stops}
 
 -- a line stands where its name, its value and a line feed stand
 pub line-there : (name value s : List ℕ) (at : ℕ) (rest : List ℕ) → stands name s at ≡ true

@@ -6,7 +6,6 @@ use mathlib.Core.List.{List, [], ◌∷◌, ◌++◌, append_assoc, append-nil}
 use native.Mathlib.Omega.{arith}
 use native.Mathlib.Nat.{div-le_self}
 use lib.Dec.{eqb}
-use lib.ListN.{length}
 use mir.Syntax.{w32}
 use mir.Val.{to_z}
 use Rattle.fields.specs.Ascii.{ascii}
@@ -26,13 +25,10 @@ use Rattle.form_reading.specs.Spelled.{stands, is_plain, Told}
 use Rattle.form_reading.specs.SpelledPoint.{is_position}
 use Rattle.forms.proofs.Putting.{points-append}
 use Rattle.form_reading.proofs.Counted.{Counted, counted_none, counted_more}
-use Rattle.form_reading.proofs.Standing.{told_then}
+use Rattle.form_reading.proofs.Standing.{name_told, told_then}
 use Rattle.form_reading.proofs.SpelledDigits.{digits_told}
 use Rattle.form_reading.proofs.SpelledPowers.{told_as}
 use Rattle.form_reading.proofs.Positions.{position_told}
-
-told-name : (x s : List ℕ) (at : ℕ) → Told x s at (stands x s at) (at + length x)
-told-name x s at = record { told = refl; after = λ e. refl }
 
 and-flat : (a b c d e : Bool) → (a && (b && c && d) && e) ≡ (a && b && c && d && e)
 and-flat true b c d e = refl
@@ -74,7 +70,7 @@ module _ (s : List ℕ) (g : Grid) (at : ℕ) (h : Head) (same : h.period ≡ g.
       let p = is_plain (u8_at s (at + 6)) (eqb n.next (at + 6 + 1)) in
       let d = eqb (u8_at s n.next) 32 in
       let digits = digits_told s (at + 6) q 32 refl (omega arith) position-small in
-      let all = told_then (told_then (told-name (ascii "point=") s at) digits) behind in
+      let all = told_then (told_then (name_told {x = ascii "point="} refl) digits) behind in
       let flat = and-flat a p (eqb q n.value) d kw ∙ ap (λ (t : Bool). a && p && t && d && kw) (sym position-told) in
       told_as shape flat all
 

@@ -21,8 +21,7 @@ use Rattle.form_reading.specs.declared.Numeral.{Numeral}
 use Rattle.form_reading.specs.Reading.{number_at}
 use Rattle.form_reading.specs.Spelled.{stands, is_plain, Told}
 use Rattle.form_reading.proofs.Values.{first, no-hyphen}
-use Rattle.form_reading.proofs.Standing.{stands-there, there-stands, told_then}
-use Rattle.form_reading.proofs.PlainDigits.{byte_there}
+use Rattle.form_reading.proofs.Standing.{byte_there, stands-there, there-stands, told_then}
 use Rattle.form_reading.proofs.SpelledDigits.{digits_told}
 
 -- what neither is told nor stands there

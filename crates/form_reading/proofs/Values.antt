@@ -144,7 +144,7 @@ pub record DateFound (read m : Minute) (next : ℕ) (s rest : List ℕ) : Type 0
   pub value : read ≡ m
   pub after : drop next s ≡ rest
 
-date-length : (d : Date) → length (date_text d) ≡ 16
+pub date-length : (d : Date) → length (date_text d) ≡ 16
 unfolding date_text
 date-length d = refl
 
