@@ -24,3 +24,4 @@ pub mod SpelledPoints
 pub mod SpelledBytes
 pub mod SpelledDates
 pub mod SpelledHead
+pub mod SpelledRest

@@ -25,8 +25,8 @@ use Rattle.form_reading.proofs.Standing.{byte_there, stands-there, there-stands,
 use Rattle.form_reading.proofs.SpelledDigits.{digits_told}
 
 -- what neither is told nor stands there
-told-never : {x s : List ℕ} {at next : ℕ} {t : Bool} → (t ≡ true → ⊥) → (stands x s at ≡ true → ⊥) → Told x s at t next
-told-never {x} {s} {at} {t = t} a b = record {
+pub told_never : {x s : List ℕ} {at next : ℕ} {t : Bool} → (t ≡ true → ⊥) → (stands x s at ≡ true → ⊥) → Told x s at t next
+told_never {x} {s} {at} {t = t} a b = record {
   told = both_ways t (stands x s at) (λ e. absurd (a e)) (λ e. absurd (b e));
   after = λ e. absurd (a e);
 }
@@ -78,7 +78,7 @@ module _ (s : List ℕ) (at : ℕ) where
         ⊎_elim
         (λ (low : v < 2147483648). rw (plus-written v low, ← plus-small low) (digits_told s at v 10 refl (omega arith) (omega arith)))
         (λ (high : 2147483648 ≤ v).
-        told-never
+        told_never
         (λ e.
         let a = is_plain (u8_at s at) (eqb n.next (at + 1)) in
         let b = ltb n.value 2147483648 in
@@ -122,7 +122,7 @@ module _ (s : List ℕ) (at : ℕ) where
     minus-told =
         ⊎_elim
         (λ (low : u < 2147483648).
-        told-never
+        told_never
         (λ e.
         let a = is_plain (u8_at s (at + 1)) (eqb m.next (at + 1 + 1)) in
         omega (arith, low, minus-range (and_right a in_range (and_left (a && in_range) (eqb (u8_at s m.next) 10) e))))
