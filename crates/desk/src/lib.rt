@@ -1,7 +1,7 @@
 // The desk: set-up, the answer to a report on the register, and what C is answered: `desk_c` exports the functions that begin with desk_.
 #![tactic(auto)]
 
-ghost use Rattle.std.specs.Prelude.{◌≡◌, ◌≤◌, true, Ok, Err, is_ok, eqb};
+ghost use Rattle.std.specs.Prelude.{◌≡◌, ◌≤◌, ◌<◌, true, Ok, Err, IfOk, is_ok, eqb};
 ghost use Rattle.report.specs.Report.{most_parts, part_count_of};
 ghost use Rattle.report.specs.Remark.{remark_place};
 ghost use Rattle.fields.specs.Lists.{pick};

@@ -25,3 +25,4 @@ pub mod SpelledBytes
 pub mod SpelledDates
 pub mod SpelledHead
 pub mod SpelledRest
+pub mod SpelledWhole

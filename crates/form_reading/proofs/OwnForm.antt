@@ -27,6 +27,9 @@ or-true : (a : Bool) → (a || true) ≡ true
 or-true true = refl
 or-true false = refl
 
+both-true : {a b : Bool} (c : Bool) → a ≡ true → b ≡ true → (a && (b && c)) ≡ c
+both-true c p q = rw (p, q) refl
+
 -- without parts no line has a resolution
 no-step : (a b : ℕ) (h : Head) (ps : List Part) (text : List ℕ) → length ps ≡ 0 → form_at a h ps text ≡ form_at b h ps text
 unfolding form_at part_lines pick
@@ -87,3 +90,9 @@ module _ (form : List ℕ) where
 
   pub own_form_is : (has_form (report_of form) && (is_own_form form && on_step)) ≡ is_form_of form (report_of form)
   own_form_is = and-same (has_form (report_of form)) (is_own_form form && on_step) (same_list (form_of (report_of form)) form) own-form
+
+  pub own_form_on : is_own_form form ≡ true → has_form (report_of form) ≡ true
+      → (eqb l.head.part_count 0 || eqb l.step (resolution_of l.head (parts_of (report_of form)))) ≡ is_form_of form (report_of form)
+  own_form_on own has =
+      ap (λ (qs : List Part). eqb l.head.part_count 0 || eqb l.step (resolution_of l.head qs)) (parts-decoded form)
+      ∙ sym (both-true on_step has own) ∙ own_form_is

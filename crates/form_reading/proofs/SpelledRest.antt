@@ -1,13 +1,12 @@
 -- What comes after a head's lines is told: the resolution, the points and the text, up to the end. Assumes nothing.
 use Prim.Native.Nat.{ℕ, suc, ◌+◌, ◌-◌, ◌≤◌, ◌<◌}
-use mathlib.Core.Path.{◌≡◌, refl, ap, sym, ◌∙◌}
+use mathlib.Core.Path.{◌≡◌, refl, sym, ◌∙◌}
 use mathlib.Core.Bool.{Bool, true, false, not, ◌&&◌, false≢true}
-use mathlib.Core.List.{List, [], ◌∷◌, ◌++◌, append_assoc}
+use mathlib.Core.List.{List, [], ◌∷◌, ◌++◌}
 use native.Mathlib.Omega.{arith}
 use lib.Dec.{eqb}
-use lib.ListN.{length, drop, length-drop}
-use borrow.Author.Tests.{eq-eqb, ne_eqb}
-use Rattle.std.specs.Prelude.{min}
+use lib.ListN.{length}
+use borrow.Author.Tests.{ne_eqb}
 use Rattle.fields.specs.Ascii.{ascii}
 use Rattle.fields.specs.Fields.{u8_at}
 use Rattle.fields.specs.Lists.{pick, part, same_list}
@@ -17,14 +16,20 @@ use Rattle.fields.proofs.Tests.{same-list-self}
 use mathlib.Core.Logic.{⊎_elim}
 use Rattle.report.specs.declared.Head.{Head}
 use Rattle.report.specs.declared.Part.{Part}
-use Rattle.report.specs.Report.{most_text}
 use Rattle.forms.specs.Values.{line, number_line}
 use Rattle.forms.specs.Form.{point_lines, part_lines}
 use Rattle.form_reading.specs.Reading.{text_length_in}
 use Rattle.form_reading.specs.Spelled.{stands, Told}
 use Rattle.form_reading.proofs.Values.{first}
 use Rattle.form_reading.proofs.Standing.{stands-there, told_then, line_told}
-use Rattle.form_reading.proofs.SpelledPowers.{told_as, told_never}
+use Rattle.form_reading.proofs.SpelledPowers.{told_never}
+
+-- no resolution stands where its name does not begin
+pub no_resolution : {s : List ℕ} {at next : ℕ} {c : ℕ} (n : ℕ) → c ≡ u8_at s at → (c ≡ 114 → ⊥) → Told (number_line (ascii "resolution=") n) s at false next
+unfolding line
+no_resolution {s} {at} n here other =
+    told_never (λ w. false≢true w)
+    (λ w. other (here ∙ first s at 114 _ (stands-there (number_line (ascii "resolution=") n) s at w)))
 
 -- the text's line does not begin as a resolution's
 text-begins : (text s : List ℕ) (at : ℕ) → stands (line (ascii "text=") text) s at ≡ true → u8_at s at ≡ 116

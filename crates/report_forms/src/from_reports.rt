@@ -12,15 +12,14 @@ use std::io::{Print, Read};
 fn pass_roster<I: Read>(from: &mut I, report: &mut [u8; LONGEST]) -> io::Result<usize>
     ensures { IfOk result (λ got. got ≤ 2) }
 {
-    let mut got = streams::read_full(from, &mut report[..2])?;
     for _ in 0..u64::MAX {
+        let got = streams::read_full(from, &mut report[..2])?;
         if !log_lines::entry_begins(&report[..got]) {
-            break;
+            return Ok(got);
         }
         streams::read_full(from, &mut report[2..ENTRY_SIZE])?;
-        got = streams::read_full(from, &mut report[..2])?;
     }
-    Ok(got)
+    Ok(0)
 }
 
 // A form for each report that has one, an empty line between two. After a report that is not whole no other can be found. A proved loop has
@@ -31,21 +30,20 @@ pub(crate) fn write_forms<R: Print, E: Print, I: Read>(
     from: &mut I,
 ) -> Result<(), Failure> {
     let mut report = [0u8; LONGEST];
-    let ahead = pass_roster(from, &mut report).map_err(Failure::Unread)?;
-    let mut got = read_report(from, &mut report, ahead).map_err(Failure::Unread)?;
+    let mut ahead = pass_roster(from, &mut report).map_err(Failure::Unread)?;
     let mut before: &[u8] = b"";
     for number in 1..u64::MAX {
+        let got = read_report(from, &mut report, ahead).map_err(Failure::Unread)?;
         if got == 0 {
             break;
         }
-        let report_read = &report[..got];
-        if write_form(out, err, number, report_read, before).map_err(Failure::Unwritten)? {
+        ahead = 0;
+        if write_form(out, err, number, &report[..got], before).map_err(Failure::Unwritten)? {
             before = b"\n";
         }
-        if !report::is_whole(report_read) {
+        if !report::is_whole(&report[..got]) {
             break;
         }
-        got = read_report(from, &mut report, 0).map_err(Failure::Unread)?;
     }
     Ok(())
 }

@@ -118,9 +118,8 @@ fn name_of(i: usize) -> &'static [u8] {
 
 // The first line that is another one in the form of the report that the lines give, if it has a form.
 fn put_difference(text: &mut Text, first_line: u64, form: &[u8]) {
-    let mut report = [0u8; LONGEST];
-    let length = form_reading::draft(form, &mut report);
-    let report = &report[..length];
+    let mut scratch = [0u8; LONGEST];
+    let report = form_reading::report_in(form, &mut scratch);
     let mut right = [0u8; 3584];
     match forms::write_form(report, &mut right) {
         Ok(length) => put_right_line(text, first_line, form, &right[..length]),
@@ -132,7 +131,9 @@ fn put_right_line(text: &mut Text, first_line: u64, form: &[u8], right: &[u8]) {
     let line = equal_lines(form, right);
     put_line_number(text, first_line, line);
     match line {
-        0..=8 => text.put(b" has no number in its range, or one with zeros in front, a sign or a blank"),
+        0..=8 => text.put(
+            b" has no number in its range, or one with zeros in front, a sign or a blank",
+        ),
         9 => text.put(b" has no 32 digits 0 to 9 and a to f"),
         10..=12 => text.put(b" has no date such as 2026-03-01 00:10"),
         _ => put_line_of(text, line, right),

@@ -6,8 +6,9 @@ mod from_forms;
 mod from_reports;
 mod hints;
 
-use std::env::FillError;
+use std::env::{Env, FillError};
 use std::io;
+use std::io::Eprint;
 
 // What ends the output before the input does.
 enum Failure {
@@ -33,7 +34,11 @@ fn main(rt: HostRuntime) {
             streams::fail(&rt, "report_forms: standard input can't be read", &error);
         }
         Err(Failure::Unwritten(error)) => {
-            streams::fail(&rt, "report_forms: standard output can't be written", &error);
+            streams::fail(
+                &rt,
+                "report_forms: standard output can't be written",
+                &error,
+            );
         }
     }
 }
