@@ -1,24 +1,15 @@
 -- What is read by writing it again and comparing. Assumes nothing.
-use Rattle.std.proofs.Common.{◌≡◌, ℕ, ◌+◌, ◌≤◌, ◌&&◌, Bool, true, false, List, [], ◌∷◌, refl, sym, ap, ◌∙◌, arith, length, take, Ok, Err, eqb}
-use lib.Pointwise.{pointwise}
-use Rattle.fields.specs.Lists.{pick, same_list, part}
+use Rattle.std.proofs.Common.{◌≡◌, ℕ, ◌+◌, ◌≤◌, ◌&&◌, ◌||◌, Bool, true, false, List, refl, sym, ap, ◌∙◌, arith, length, take, Ok, Err, eqb}
+use Rattle.fields.specs.Lists.{pick, part}
 use Rattle.fields.proofs.Slices.{part-put}
+use Rattle.report.specs.Report.{parts_of}
 use Rattle.texts.specs.Texts.{Puts}
-use Rattle.forms.specs.declared.FormError.{FormError}
-use Rattle.forms.specs.declared.FormError.TheVariants.{NotAForm, NoForm}
-use Rattle.forms.specs.Form.{has_form, form_of}
-use Rattle.forms.specs.Lent.{form_written}
-use Rattle.form_reading.specs.Reading.{report_of, is_form_of, form_read}
-
-same-pointwise : (a b : List ℕ) → pointwise eqb a b ≡ same_list a b
-unfolding same_list
-same-pointwise [] [] = refl
-same-pointwise [] (y ∷ ys) = refl
-same-pointwise (x ∷ xs) [] = refl
-same-pointwise (x ∷ xs) (y ∷ ys) = ap (λ (t : Bool). eqb x y && t) (same-pointwise xs ys)
-
-pub same_bytes : {r : Bool} (a b : List ℕ) → r ≡ pointwise eqb a b → r ≡ same_list a b
-same_bytes a b e = e ∙ same-pointwise a b
+use Rattle.forms.specs.declared.FormError.TheVariants.{NotAForm}
+use Rattle.forms.specs.Form.{has_form, resolution_of}
+use Rattle.form_reading.specs.declared.Lines.{Lines}
+use Rattle.form_reading.specs.Reading.{lines_in, report_by, report_of, is_form_of, form_read}
+use Rattle.form_reading.specs.SpelledForm.{is_own_form}
+use Rattle.form_reading.proofs.OwnForm.{own_form_is, own_form_on}
 
 -- the front of a buffer at whose start a text was put
 pub front_put : {m n : ℕ} {here x there : List ℕ} → Puts m here x there n → m ≤ length here → take n there ≡ x
@@ -27,37 +18,33 @@ front_put {n = n} {here} {x} p h =
     let room : 0 + length x ≤ length here = omega (arith, p.value, p.upper_bound) in
     rw (p.text_after, p.value) (part-put here 0 x room)
 
--- the form that the report has, or its absence
-if_had : (t : Bool) {text : List ℕ} {r : Bool} (y form : List ℕ) → Ok text ≡ pick t (Ok y) (Err NoForm) → r ≡ same_list text form
-    → r ≡ (t && same_list y form)
-unfolding pick
-if_had true {text} y form e q =
-    let same : text ≡ y = cc in
-    rw (← same) q
-if_had false y form e q = cc
+never : (t : Bool) → (t && false) ≡ false
+never true = refl
+never false = refl
 
-if_missing : (t s : Bool) {e : FormError} (y : List ℕ) → Err e ≡ pick t (Ok y) (Err NoForm) → false ≡ (t && s)
-unfolding pick
-if_missing true s y e = cc
-if_missing false s y e = refl
+-- a form that is told
+module _ (form : List ℕ) where
+  pub not_told : {r : Bool} → r ≡ is_own_form form → r ≡ false → is_form_of form (report_of form) ≡ false
+  not_told asked e = sym (own_form_is form) ∙ rw (← asked, e) (never (has_form (report_of form)))
 
-pub form_had : {text : List ℕ} {r : Bool} (form report : List ℕ) → Ok text ≡ form_written report → r ≡ same_list text form
-    → r ≡ is_form_of form report
-unfolding form_written
-form_had form report e q = if_had (has_form report) (form_of report) form e q
+  pub told_so : {report : List ℕ} {r k : Bool} {l : Lines} → is_own_form form ≡ true → l ≡ lines_in form → report ≡ report_by form l
+      → k ≡ has_form report → k ≡ true → r ≡ (eqb l.head.part_count 0 || eqb l.step (resolution_of l.head (parts_of report)))
+      → r ≡ is_form_of form (report_of form)
+  told_so own lines read asked has e =
+      let same = read ∙ ap (report_by form) lines in
+      e ∙ rw (same, lines) (own_form_on form own (ap has_form (sym same) ∙ sym asked ∙ has))
 
-pub form_missing : {e : FormError} (form report : List ℕ) → Err e ≡ form_written report → false ≡ is_form_of form report
-unfolding form_written
-form_missing form report e = if_missing (has_form report) (same_list (form_of report) form) (form_of report) e
+  pub told_none : {report : List ℕ} {k : Bool} {l : Lines} → l ≡ lines_in form → report ≡ report_by form l → k ≡ has_form report → k ≡ false
+      → false ≡ is_form_of form (report_of form)
+  told_none lines read asked has =
+      let same = read ∙ ap (report_by form) lines in
+      rw (ap has_form (sym same) ∙ sym asked ∙ has)
 
-module _ (form : List ℕ) {found : List ℕ} {r : Bool} (same : found ≡ report_of form) (asked : r ≡ is_form_of form found) where
-  answered : (t : Bool) → r ≡ t → is_form_of form (report_of form) ≡ t
-  answered t e = ap (λ (s : List ℕ). is_form_of form s) (sym same) ∙ sym asked ∙ e
-
-  pub read_yes : r ≡ true → Ok found ≡ form_read form
+module _ (form : List ℕ) where
+  pub read_yes : {found : List ℕ} → found ≡ report_of form → is_form_of form (report_of form) ≡ true → Ok found ≡ form_read form
   unfolding form_read pick
-  read_yes e = rw (answered true e, same)
+  read_yes same e = rw (e, same)
 
-  pub read_no : r ≡ false → Err NotAForm ≡ form_read form
+  pub read_no : is_form_of form (report_of form) ≡ false → Err NotAForm ≡ form_read form
   unfolding form_read pick
-  read_no e = rw (answered false e)
+  read_no e = rw e

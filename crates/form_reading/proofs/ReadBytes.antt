@@ -47,7 +47,7 @@ module _ (h : Head) (f : ℕ → ℕ) (ps : List Part) (text : List ℕ) where
   abbrev front : List ℕ
   front = encode_head (named h f) ++ encode_parts ps ++ bytes_of 2 text_mark
 
-  head-long : length (encode_head (named h f)) ≡ 48
+  pub head-long : length (encode_head (named h f)) ≡ 48
   unfolding encode_head bytes_of series
   head-long = refl
 
@@ -56,7 +56,7 @@ module _ (h : Head) (f : ℕ → ℕ) (ps : List Part) (text : List ℕ) where
       length-append (encode_head (named h f) ++ encode_parts ps) (bytes_of 2 text_mark)
       ∙ rw (length-append (encode_head (named h f)), head-long, parts-long ps, bytes-length 2 text_mark) (omega arith)
 
-  count-there : h.part_count < 65536 → part_count_of encoded ≡ h.part_count
+  pub count-there : h.part_count < 65536 → part_count_of encoded ≡ h.part_count
   unfolding encode_report encode_head bytes_of series
   count-there few = uint-found 2 encoded 14 h.part_count _ refl few
 
@@ -64,7 +64,7 @@ module _ (h : Head) (f : ℕ → ℕ) (ps : List Part) (text : List ℕ) where
   unfolding encode_report encode_head bytes_of series
   length-there short = uint-found 2 encoded 44 h.text_length _ refl short
 
-  text-there : h.part_count ≡ length ps → h.part_count < 65536 → length text ≤ h.text_length → h.text_length < 65536
+  pub text-there : h.part_count ≡ length ps → h.part_count < 65536 → length text ≤ h.text_length → h.text_length < 65536
       → text_of encoded ≡ text
   unfolding encode_report part
   text-there counted few most short =
@@ -77,7 +77,7 @@ module _ (h : Head) (f : ℕ → ℕ) (ps : List Part) (text : List ℕ) where
   encoded-bytes codes identifier text_bytes =
       search (bytes_append, byte_first, no_bytes, number_bytes, series_bytes, parts-bytes) depth 20
 
-part-most : (s : List ℕ) (at n : ℕ) → length (part s at n) ≤ n
+pub part-most : (s : List ℕ) (at n : ℕ) → length (part s at n) ≤ n
 unfolding part
 part-most s at n = simp length-take (omega arith)
 
@@ -93,16 +93,16 @@ module _ (form : List ℕ) where
     qualification = omega arith;
   }
 
-  few : (lines_in form).head.part_count ≤ most_parts
+  pub few : (lines_in form).head.part_count ≤ most_parts
   unfolding lines_in point_count
   few = seek-most _ 0 most_parts
 
-  short : (lines_in form).head.text_length ≤ most_text
+  pub short : (lines_in form).head.text_length ≤ most_text
   unfolding lines_in
   short = omega arith
 
   -- the identifier is read byte by byte, from some place on
-  identified : (at : ℕ) × ((lines_in form).head ≡ named (lines_in form).head (hex_byte form at))
+  pub identified : (at : ℕ) × ((lines_in form).head ≡ named (lines_in form).head (hex_byte form at))
   unfolding lines_in mark_lines_in
   identified = (_, refl)
 

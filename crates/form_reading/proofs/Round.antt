@@ -73,6 +73,9 @@ module _ (r : List ℕ) (bytes : AreBytes r) (has : has_form r ≡ true) where
         step_back (head_of r) (part_at r) power_bits (text_of r) step (in_range r bytes has) points (omega arith)
         (text-length r known.whole_so) known.sized.short (form_on step) refl
 
+  pub step_of_form : (f : List ℕ) → 1 ≤ length (parts_of r) → form_of r ≡ f → (lines_in f).step ≡ picked
+  step_of_form f some e = rw e at (step_again picked picked_most picked_falls some)
+
   pub read_back : form_read (form_of r) ≡ Ok r
   unfolding form_read pick
   read_back =

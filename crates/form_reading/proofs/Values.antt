@@ -53,7 +53,7 @@ line_past s at name value rest e =
     (past s (at + length name) value (10 ∷ rest) (value_there s at name value rest e))
 
 -- decimal digits
-digit-step : (k : ℕ) (s : List ℕ) (at m d : ℕ) → u8_at s at ≡ 48 + d → d < 10
+pub digit-step : (k : ℕ) (s : List ℕ) (at m d : ℕ) → u8_at s at ≡ 48 + d → d < 10
     → digits_at (suc k) s at m ≡ digits_at k s (at + 1) (10 * m + d)
 unfolding digits_at pick
 digit-step k s at m d e l =
@@ -144,7 +144,7 @@ pub record DateFound (read m : Minute) (next : ℕ) (s rest : List ℕ) : Type 0
   pub value : read ≡ m
   pub after : drop next s ≡ rest
 
-date-length : (d : Date) → length (date_text d) ≡ 16
+pub date-length : (d : Date) → length (date_text d) ≡ 16
 unfolding date_text
 date-length d = refl
 
@@ -207,7 +207,7 @@ identifier-back s at bytes rest long small e =
     rw long at (bytes-back s at 0 bytes rest small (rw z e))
 
 -- kW
-no-hyphen : (s : List ℕ) (at n c : ℕ) (rest : List ℕ) → drop at s ≡ decimal n ++ (c ∷ rest) → is_digit c ≡ false
+pub no-hyphen : (s : List ℕ) (at n c : ℕ) (rest : List ℕ) → drop at s ≡ decimal n ++ (c ∷ rest) → is_digit c ≡ false
     → n < 10000000000 → eqb (u8_at s at) 45 ≡ false
 unfolding number_at
 no-hyphen s at n c rest e d l =

@@ -1,1 +1,4 @@
 pub mod Reading
+pub mod Spelled
+pub mod SpelledForm
+pub mod SpelledPoint

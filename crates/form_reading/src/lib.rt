@@ -1,19 +1,26 @@
 // The report of a form. A form is read by writing: the report that its lines give is written as a form again, and compared.
 #![tactic(auto)]
 
-ghost use Rattle.std.specs.Prelude.{◌≡◌, ℕ, ◌+◌, ◌*◌, ◌-◌, ◌≤◌, ◌<◌, ◌%◌, ◌++◌, true, List, length, Ok, IfOk};
-ghost use Rattle.fields.specs.Lists.{pick, part, series, same_list};
+ghost use Rattle.std.specs.Prelude.{◌≡◌, ℕ, ◌+◌, ◌*◌, ◌-◌, ◌≤◌, ◌<◌, ◌%◌, ◌++◌, true, false, not, ◌&&◌, eqb, List, length, Ok, IfOk};
+ghost use Rattle.fields.specs.Ascii.{ascii};
+ghost use Rattle.fields.specs.Fields.{u8_at};
+ghost use Rattle.fields.specs.Lists.{pick, part};
 ghost use Rattle.report.specs.Report.{head_of, parts_of};
 ghost use Rattle.report.specs.Encoded.{encode_head, encode_parts};
 ghost use Rattle.texts.specs.Texts.{Writes, Puts};
+ghost use Rattle.forms.specs.Values.{line, number_line};
 ghost use Rattle.forms.specs.Form.{text_of, has_form, all_fall, resolution_of, form_at, form_of, IsFormOf};
 ghost use Rattle.forms.specs.Lent.{length_given, buffer_after};
-ghost use Rattle.form_reading.specs.Reading.{is_digit, number_at, number_in, power_at, hex_value, hex_byte, date_at};
-ghost use Rattle.form_reading.specs.Reading.{code_lines_in, mark_lines_in, date_lines_in, resolution_in, is_point, point_in, point_at, point_count};
+ghost use Rattle.form_reading.specs.Reading.{is_digit, number_at, power_at, hex_value, resolution_in, is_point, point_in};
 ghost use Rattle.form_reading.specs.Reading.{text_length_in, lines_in, head_by, minute_of, grid_of, parts_in, report_by, report_of};
 ghost use Rattle.form_reading.specs.Reading.{is_form_of, no_report, form_read, AreBytes};
+ghost use Rattle.form_reading.specs.Spelled.{Told};
+ghost use Rattle.form_reading.specs.SpelledForm.{is_own_form};
 
-use forms::{FormError, MOST_FORM};
+mod spelled;
+mod spelled_points;
+
+use forms::FormError;
 use quantities::{Minute, Period, SignedKilowatt};
 use report::{Direction, Head, MOST_PARTS, Mark, Operation, Part, RecordType};
 use texts::Text;
@@ -119,19 +126,6 @@ fn number_at(s: &[u8], at: usize) -> Numeral
     }
 }
 
-// The number of the line at `at`, whose name with its "=" has `name` bytes, and the next line.
-fn number_in(name: usize, s: &[u8], at: usize) -> Numeral
-    requires { (at ≤ 32768) × (name ≤ 16) }
-    ensures read { result ≡ number_in name s.now at }
-    ensures bounds { (result.value < 10000000000) × (result.next ≤ at + name + 11) }
-{
-    let n = number_at(s, at + name);
-    Numeral {
-        value: n.value,
-        next: n.next + 1,
-    }
-}
-
 // The bits of -n.
 fn opposite(n: u64) -> u64
     ensures { result ≡ (4294967296 - n) % 4294967296 }
@@ -171,108 +165,6 @@ fn hex_value(c: u8) -> u8
     }
 }
 
-fn hex_byte(s: &[u8], at: usize, j: usize) -> u8
-    requires { (at ≤ 32768) × (j < 16) }
-    ensures { result ≡ hex_byte s.now at j }
-{
-    let high = u32::from(hex_value(fields::u8_at(s, at + 2 * j)));
-    let low = u32::from(hex_value(fields::u8_at(s, at + 2 * j + 1)));
-    ((16 * high + low) % 256) as u8
-}
-
-fn identifier_at(s: &[u8], at: usize) -> [u8; 16]
-    requires { at ≤ 32768 }
-    ensures { result ≡ series (hex_byte s.now at) 0 16 }
-{
-    let mut identifier = [0u8; 16];
-    for j in 0..16usize {
-        identifier[j] = hex_byte(s, at, j);
-    }
-    identifier
-}
-
-// The minute of the date at `at`; 0 where no date is there.
-fn date_at(s: &[u8], at: usize) -> Minute
-    ensures { result ≡ date_at s.now at }
-{
-    match calendar::read_date(part(s, at, 16)) {
-        Ok(m) => m,
-        Err(_) => Minute(0),
-    }
-}
-
-#[tactic(auto, unfolding(crate::specs::Reading::code_lines_in))]
-fn code_lines_in(s: &[u8]) -> CodeLines
-    ensures read { result ≡ code_lines_in s.now }
-    ensures bounds { result.next ≤ 91 }
-{
-    let unit = number_in(5, s, 0);
-    let owner = number_in(6, s, unit.next);
-    let record_type = number_in(5, s, owner.next);
-    let operation = number_in(10, s, record_type.next);
-    let direction = number_in(10, s, operation.next);
-    CodeLines {
-        unit: (unit.value % 65536) as u16,
-        owner: (owner.value % 65536) as u16,
-        record_type: (record_type.value % 256) as u8,
-        operation: (operation.value % 256) as u8,
-        direction: (direction.value % 256) as u8,
-        next: direction.next,
-    }
-}
-
-#[tactic(auto, unfolding(crate::specs::Reading::mark_lines_in))]
-fn mark_lines_in(s: &[u8], at: usize) -> MarkLines
-    requires { at ≤ 91 }
-    ensures read { result ≡ mark_lines_in s.now at }
-    ensures bounds { result.next ≤ 221 }
-{
-    let start = number_in(11, s, at);
-    let end = number_in(9, s, start.next);
-    let qualification = number_in(14, s, end.next);
-    let ordinal = number_in(8, s, qualification.next);
-    let identifier = identifier_at(s, ordinal.next + 11);
-    MarkLines {
-        start_mark: (start.value % 256) as u8,
-        end_mark: (end.value % 256) as u8,
-        qualification: (qualification.value % 256) as u8,
-        ordinal: (ordinal.value % 65536) as u16,
-        identifier,
-        next: ordinal.next + 44,
-    }
-}
-
-#[tactic(auto, unfolding(crate::specs::Reading::date_lines_in))]
-fn date_lines_in(s: &[u8], at: usize) -> DateLines
-    requires { at ≤ 221 }
-    ensures read { result ≡ date_lines_in s.now at }
-    ensures bounds { result.next ≤ 288 }
-{
-    let stamp = date_at(s, at + 6);
-    let start = date_at(s, at + 29);
-    let end = date_at(s, at + 50);
-    let period = Period { start, end };
-    DateLines {
-        stamp,
-        period,
-        next: at + 67,
-    }
-}
-
-// The resolution, where its line is there: its name begins with "r".
-#[tactic(auto, unfolding(crate::specs::Reading::resolution_in, fields::specs::Lists::pick))]
-fn resolution_in(s: &[u8], at: usize) -> Numeral
-    requires { at ≤ 288 }
-    ensures read { result ≡ resolution_in s.now at }
-    ensures bounds { result.next ≤ 310 }
-{
-    if fields::u8_at(s, at) == b'r' {
-        number_in(11, s, at)
-    } else {
-        Numeral { value: 1, next: at }
-    }
-}
-
 // The line of a point begins with "p".
 fn is_point(s: &[u8], at: usize) -> bool
     ensures { result ≡ is_point s.now at }
@@ -295,25 +187,6 @@ fn point_in(s: &[u8], at: usize) -> Point
     }
 }
 
-fn points_in(s: &[u8], at: usize) -> Points
-    requires { at ≤ 310 }
-    ensures count { result.count ≡ point_count s.now at }
-    ensures next { result.next ≡ point_at s.now at result.count }
-    ensures bounds { (result.count ≤ 100) × (result.next ≤ 3210) }
-{
-    let mut next = at;
-    for j in 0..MOST_PARTS {
-        if !is_point(s, next) {
-            return Points { count: j, next };
-        }
-        next = point_in(s, next).next;
-    }
-    Points {
-        count: MOST_PARTS,
-        next,
-    }
-}
-
 // What is left of the form behind the name of its last line and before the line feed.
 fn text_length_in(s: &[u8], at: usize) -> u16
     requires { at ≤ 8192 }
@@ -321,26 +194,6 @@ fn text_length_in(s: &[u8], at: usize) -> u16
     ensures bounds { result ≤ 200 }
 {
     s.len().saturating_sub(at + 6).min(200) as u16
-}
-
-#[tactic(auto, unfolding(crate::specs::Reading::lines_in))]
-fn lines_in(s: &[u8]) -> Lines
-    ensures read { result ≡ lines_in s.now }
-    ensures bounds { (result.head.part_count ≤ 100) × (result.head.text_length ≤ 200) × (result.points_at ≤ 310) × (result.text_at ≤ 3215) }
-{
-    let codes = code_lines_in(s);
-    let marks = mark_lines_in(s, codes.next);
-    let dates = date_lines_in(s, marks.next);
-    let step = resolution_in(s, dates.next);
-    let points = points_in(s, step.next);
-    let text_length = text_length_in(s, points.next);
-    let head = head_by(codes, marks, dates, points.count, text_length);
-    Lines {
-        head,
-        step: (step.value % 65536) as u16,
-        points_at: step.next,
-        text_at: points.next + 5,
-    }
 }
 
 fn head_by(
@@ -433,31 +286,91 @@ fn put_report(report: &mut Text, form: &[u8], lines: Lines)
     report.put(part(form, lines.text_at, usize::from(lines.head.text_length)));
 }
 
-// The report that the form's lines say, at the start of the bytes; its length.
-fn put_report_of(form: &[u8], bytes: &mut [u8]) -> usize
-    ensures { Puts 1850 bytes.old (report_of form.now) bytes.new result }
+// The same at the start of the bytes; its length.
+fn put_report_by(form: &[u8], lines: Lines, bytes: &mut [u8]) -> usize
+    requires { (lines.points_at ≤ 310) × (lines.head.part_count ≤ 100) × (lines.head.text_length ≤ 200) }
+    ensures { Puts 1850 bytes.old (report_by form.now lines) bytes.new result }
 {
     let mut report = Text::new(bytes);
-    put_report(&mut report, form, lines_in(form));
+    put_report(&mut report, form, lines);
     report.end()
 }
 
-#[tactic(auto, using(crate::proofs::FormRead::same_bytes))]
-fn same_bytes(a: &[u8], b: &[u8]) -> bool
-    ensures { result ≡ same_list a.now b.now }
+// The resolution, where its line is there: its name begins with "r". No line is told where none is there.
+#[tactic(auto, unfolding(crate::specs::Reading::resolution_in, fields::specs::Lists::pick))]
+fn resolution_line(s: &[u8], at: usize) -> (Numeral, bool)
+    requires { at ≤ 288 }
+    ensures read { result.0 ≡ resolution_in s.now at }
+    ensures told { Told (number_line (ascii "resolution=") (result.0.value % 65536)) s.now at result.1 result.0.next }
+    ensures stays { eqb (u8_at s.now at) 114 ≡ false → result.0.next ≡ at }
+    ensures bounds { result.0.next ≤ 310 }
 {
-    a == b
+    if fields::u8_at(s, at) == b'r' {
+        return spelled::number_line(b"resolution=", 65536, s, at);
+    }
+    (Numeral { value: 1, next: at }, false)
 }
 
-// The report has this form.
-fn is_form_of(form: &[u8], report: &[u8]) -> bool
-    ensures { result ≡ is_form_of form.now report.now }
+// The length of the text whose line is at `at`, the last line.
+fn text_line(s: &[u8], at: usize) -> (u16, bool)
+    requires { at ≤ 8192 }
+    ensures read { result.0 ≡ text_length_in s.now at }
+    ensures told { Told (line (ascii "text=") (part s.now (at + 5) result.0)) s.now at result.1 (at + 6 + result.0) }
+    ensures bounds { result.0 ≤ 200 }
 {
-    let mut scratch = [0u8; MOST_FORM];
-    match forms::form_in(report, &mut scratch) {
-        Ok(text) => same_bytes(text, form),
-        Err(_) => false,
+    let t = text_length_in(s, at);
+    let stop = fields::u8_at(s, at + 5 + usize::from(t));
+    (t, spelled::stands(b"text=", s, at) & (stop == b'\n'))
+}
+
+// "A report without parts has no resolution line", and any other has one.
+#[tactic(auto, unfolding(fields::specs::Lists::pick))]
+fn parts_are_spelled(part_count: u16, there: bool, resolution: bool, points: bool) -> bool
+    ensures { result ≡ pick (eqb part_count 0) (not there) (resolution && points) }
+{
+    if part_count == 0 {
+        !there
+    } else {
+        resolution & points
     }
+}
+
+// What the lines give, and whether it is written as they are, at the resolution that they give.
+#[tactic(auto, unfolding(crate::specs::Reading::lines_in))]
+fn lines_in(s: &[u8]) -> (Lines, bool)
+    ensures read { result.0 ≡ lines_in s.now }
+    ensures spelled { result.1 ≡ is_own_form s.now }
+    ensures bounds { (result.0.head.part_count ≤ 100) × (result.0.head.text_length ≤ 200) × (result.0.points_at ≤ 310) × (result.0.text_at ≤ 3215) }
+{
+    let (codes, a) = spelled::code_lines(s);
+    let (marks, b) = spelled::mark_lines(s, codes.next);
+    let (dates, c) = spelled::date_lines(s, marks.next);
+    let (resolution, d) = resolution_line(s, dates.next);
+    let period = dates.period;
+    let step = (resolution.value % 65536) as u16;
+    let (points, e) = spelled_points::spelled_points(s, resolution.next, Grid { period, step });
+    let (text_length, f) = text_line(s, points.next);
+    let there = fields::u8_at(s, dates.next) == b'r';
+    let rest = parts_are_spelled(points.count, there, d, e) & f;
+    let ends = points.next + 6 + usize::from(text_length) == s.len();
+    let head = head_by(codes, marks, dates, points.count, text_length);
+    let lines = Lines {
+        head,
+        step,
+        points_at: resolution.next,
+        text_at: points.next + 5,
+    };
+    (lines, a & b & c & rest & ends)
+}
+
+// The report that the form's lines say, at the start of the scratch.
+fn report_of_lines<'a>(form: &[u8], lines: Lines, scratch: &'a mut [u8; MOST_REPORT]) -> &'a [u8]
+    requires { (lines.points_at ≤ 310) × (lines.head.part_count ≤ 100) × (lines.head.text_length ≤ 200) }
+    ensures report { result.now ≡ report_by form.now lines }
+    ensures bound { length result.now ≤ 1850 }
+{
+    let end = put_report_by(form, lines, scratch);
+    &scratch[..end]
 }
 
 // The report that the form's lines say, as far as they say something, at the start of the scratch: of a text that is no form too.
@@ -465,8 +378,19 @@ pub fn report_in<'a>(form: &[u8], scratch: &'a mut [u8; MOST_REPORT]) -> &'a [u8
     ensures report { result.now ≡ report_of form.now }
     ensures bound { length result.now ≤ 1850 }
 {
-    let end = put_report_of(form, scratch);
-    &scratch[..end]
+    let (lines, _) = lines_in(form);
+    report_of_lines(form, lines, scratch)
+}
+
+// Of a form whose lines are spelled as they are written: the report that they say has a form, and on their resolution.
+fn is_form_of(form: &[u8], lines: Lines, report: &[u8]) -> bool
+    requires { (is_own_form form.now ≡ true) × (lines ≡ lines_in form.now) × (report.now ≡ report_by form.now lines) }
+    ensures { result ≡ is_form_of form.now (report_of form.now) }
+{
+    if !forms::has_form(report) {
+        return false;
+    }
+    (lines.head.part_count == 0) | (u32::from(lines.step) == forms::resolution(report, lines.head))
 }
 
 // The report of a form at the start of a lent buffer, whose other bytes stay: its length, or 24, then 43.
@@ -475,9 +399,13 @@ pub fn read_form(form: &[u8], report: &mut [u8]) -> Result<usize, FormError>
     ensures report_after { report.new ≡ buffer_after (form_read form.now) report.old }
     ensures bounds { IfOk result (λ n. (n ≤ length report.old) × (n ≤ 1850)) }
 {
+    let (lines, spelled) = lines_in(form);
+    if !spelled {
+        return Err(FormError::NotAForm);
+    }
     let mut scratch = [0u8; MOST_REPORT];
-    let found = report_in(form, &mut scratch);
-    if !is_form_of(form, found) {
+    let found = report_of_lines(form, lines, &mut scratch);
+    if !is_form_of(form, lines, found) {
         return Err(FormError::NotAForm);
     }
     forms::lay(found, report)

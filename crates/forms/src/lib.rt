@@ -90,7 +90,7 @@ fn all_fall(report: &[u8], h: Head, step: u32) -> bool
 
 // The coarsest.
 #[tactic(auto, unfolding(crate::specs::Form::resolution_of, fields::specs::Lists::pick))]
-fn resolution(report: &[u8], h: Head) -> u32
+pub fn resolution(report: &[u8], h: Head) -> u32
     ensures value { result ≡ resolution_of h (parts_of report.now) }
     ensures bound { 1 ≤ result }
 {

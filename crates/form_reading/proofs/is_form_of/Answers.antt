@@ -1,8 +1,9 @@
-use Rattle.form_reading.proofs.FormRead.{form_had, form_missing}
+use Rattle.std.proofs.Common.{refl}
+use Rattle.form_reading.proofs.FormRead.{told_so}
 use Rattle.form_reading.proofs.is_form_of.Goals as goal
 
-pub returns-in-Ok : goal.returns-in-Ok
-returns-in-Ok c = form_had c.args.form.now c.args.report.now c.in-Ok.ensures.value c.same_bytes.ensures
-
-pub returns-in-Err : goal.returns-in-Err
-returns-in-Err c = form_missing c.args.form.now c.args.report.now c.in-Err.ensures.value
+pub returns : goal.returns
+returns c =
+    let told = c.requires in
+    rw (c.from.ensures, c.resolution.ensures.value)
+    (told_so c.args.form.now told.0 told.1 told.2 c.has_form.ensures c.if-not-has_form.false refl)

@@ -1,21 +1,37 @@
+use Rattle.std.proofs.Common.{sym, ◌∙◌, ap}
 use Rattle.forms.specs.Lent.{length_given, buffer_after}
-use Rattle.form_reading.proofs.FormRead.{read_yes, read_no}
+use Rattle.form_reading.specs.Reading.{report_by}
+use Rattle.form_reading.proofs.FormRead.{not_told, read_yes, read_no}
 use Rattle.form_reading.proofs.read_form.Goals as goal
+
+pub returns-then-not-spelled-clause-value : goal.returns-then-not-spelled-clause-value
+unfolding length_given
+returns-then-not-spelled-clause-value c =
+    rw (← read_no c.args.form.now (not_told c.args.form.now c.lines_in-spelled.ensures.spelled c.if-not-spelled.true))
+
+pub returns-then-not-spelled-clause-report_after : goal.returns-then-not-spelled-clause-report_after
+unfolding buffer_after
+returns-then-not-spelled-clause-report_after c =
+    rw (← read_no c.args.form.now (not_told c.args.form.now c.lines_in-spelled.ensures.spelled c.if-not-spelled.true))
 
 pub returns-then-not-is_form_of-clause-value : goal.returns-then-not-is_form_of-clause-value
 unfolding length_given
 returns-then-not-is_form_of-clause-value c =
-    rw (← read_no c.args.form.now c.report_in-found.ensures.report c.is_form_of.ensures c.if-not-is_form_of.true)
+    rw (← read_no c.args.form.now (sym c.is_form_of.ensures ∙ c.if-not-is_form_of.true))
 
 pub returns-then-not-is_form_of-clause-report_after : goal.returns-then-not-is_form_of-clause-report_after
 unfolding buffer_after
 returns-then-not-is_form_of-clause-report_after c =
-    rw (← read_no c.args.form.now c.report_in-found.ensures.report c.is_form_of.ensures c.if-not-is_form_of.true)
+    rw (← read_no c.args.form.now (sym c.is_form_of.ensures ∙ c.if-not-is_form_of.true))
 
 pub returns-clause-value : goal.returns-clause-value
 returns-clause-value c =
-    rw (← read_yes c.args.form.now c.report_in-found.ensures.report c.is_form_of.ensures c.if-not-is_form_of.false) c.lay.ensures.value
+    let form = c.args.form.now in
+    let found = c.report_of_lines-found.ensures.report ∙ ap (report_by form) c.lines_in-spelled.ensures.read in
+    rw (← read_yes form found (sym c.is_form_of.ensures ∙ c.if-not-is_form_of.false)) c.lay.ensures.value
 
 pub returns-clause-report_after : goal.returns-clause-report_after
 returns-clause-report_after c =
-    rw (← read_yes c.args.form.now c.report_in-found.ensures.report c.is_form_of.ensures c.if-not-is_form_of.false) c.lay.ensures.buffer_after
+    let form = c.args.form.now in
+    let found = c.report_of_lines-found.ensures.report ∙ ap (report_by form) c.lines_in-spelled.ensures.read in
+    rw (← read_yes form found (sym c.is_form_of.ensures ∙ c.if-not-is_form_of.false)) c.lay.ensures.buffer_after

@@ -1,0 +1,13 @@
+-- A whole form, told by its lines: what they give, written at the resolution that they give, is the form again.
+use Rattle.std.specs.Prelude.{ℕ, Bool, List}
+use Rattle.fields.specs.Lists.{part, same_list}
+use Rattle.forms.specs.Form.{form_at}
+use Rattle.form_reading.specs.declared.Lines.{Lines}
+use Rattle.form_reading.specs.Reading.{lines_in, grid_of, parts_in}
+
+abbrev pub own_form : List ℕ → Lines → List ℕ
+own_form s l =
+    form_at l.step l.head (parts_in s (grid_of l) l.points_at l.head.part_count) (part s l.text_at l.head.text_length)
+
+unfoldable pub is_own_form : List ℕ → Bool
+is_own_form s = same_list (own_form s (lines_in s)) s

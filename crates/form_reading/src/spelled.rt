@@ -1,0 +1,180 @@
+// Lines that are told to be spelled as they are written, while they are read.
+ghost use Rattle.std.specs.Prelude.{◌≡◌, ℕ, ◌+◌, ◌*◌, ◌≤◌, ◌<◌, ◌%◌, [], ◌∷◌, length};
+ghost use Rattle.fields.specs.Lists.{series};
+ghost use Rattle.calendar.specs.Reading.{print_of};
+ghost use Rattle.forms.specs.Values.{line, number_line, date_line, hex_text};
+ghost use Rattle.fields.specs.Ascii.{ascii};
+ghost use Rattle.form_reading.specs.Reading.{number_in, hex_byte, date_at, code_lines_in, mark_lines_in, date_lines_in};
+ghost use Rattle.form_reading.specs.Spelled.{stands, is_plain, is_hex, Told, code_text, mark_text, date_text};
+
+use crate::{CodeLines, DateLines, MarkLines, Numeral, hex_value, number_at, part};
+use quantities::{Minute, Period};
+
+// Whether x stands in s at `at`.
+#[inline(always)]
+pub(crate) fn stands(x: &[u8], s: &[u8], at: usize) -> bool
+    ensures { result ≡ stands x.now s.now at }
+{
+    s.get(at..).unwrap_or(&[]).starts_with(x)
+}
+
+#[tactic(auto, unfolding(crate::specs::Spelled::is_plain, fields::specs::Lists::pick))]
+pub(crate) fn is_plain(first: u8, only_one: bool) -> bool
+    ensures { result ≡ is_plain first only_one }
+{
+    if first == b'0' {
+        only_one
+    } else {
+        first.is_ascii_digit()
+    }
+}
+
+// The number of the line at `at`, below the limit where the line is spelled, and the next line.
+#[inline(always)]
+pub(crate) fn number_line(name: &[u8], limit: u64, s: &[u8], at: usize) -> (Numeral, bool)
+    requires { (at ≤ 32768) × (length name.now ≤ 16) × (1 ≤ limit) × (limit ≤ 65536) }
+    ensures read { result.0 ≡ number_in (length name.now) s.now at }
+    ensures spelled { Told (number_line name.now (result.0.value % limit)) s.now at result.1 result.0.next }
+    ensures bounds { (result.0.value < 10000000000) × (result.0.next ≤ at + length name.now + 11) }
+{
+    let digits = at + name.len();
+    let n = number_at(s, digits);
+    let spelled = stands(name, s, at)
+        & is_plain(fields::u8_at(s, digits), n.next == digits + 1)
+        & (n.value < limit)
+        & (fields::u8_at(s, n.next) == b'\n');
+    let number = Numeral {
+        value: n.value,
+        next: n.next + 1,
+    };
+    (number, spelled)
+}
+
+#[tactic(auto, unfolding(crate::specs::Reading::code_lines_in))]
+pub(crate) fn code_lines(s: &[u8]) -> (CodeLines, bool)
+    ensures read { result.0 ≡ code_lines_in s.now }
+    ensures spelled { Told (code_text result.0) s.now 0 result.1 result.0.next }
+    ensures bounds { result.0.next ≤ 91 }
+{
+    let (unit, a) = number_line(b"unit=", 65536, s, 0);
+    let (owner, b) = number_line(b"owner=", 65536, s, unit.next);
+    let (record_type, c) = number_line(b"type=", 256, s, owner.next);
+    let (operation, d) = number_line(b"operation=", 256, s, record_type.next);
+    let (direction, e) = number_line(b"direction=", 256, s, operation.next);
+    let lines = CodeLines {
+        unit: (unit.value % 65536) as u16,
+        owner: (owner.value % 65536) as u16,
+        record_type: (record_type.value % 256) as u8,
+        operation: (operation.value % 256) as u8,
+        direction: (direction.value % 256) as u8,
+        next: direction.next,
+    };
+    (lines, a & b & c & d & e)
+}
+
+fn is_hex(c: u8) -> bool
+    ensures { result ≡ is_hex c }
+{
+    c.is_ascii_digit() | ((b'a' <= c) & (c <= b'f'))
+}
+
+// Byte j of the digits that begin at `at`.
+fn hex_byte(s: &[u8], at: usize, j: usize) -> (u8, bool)
+    requires { (at ≤ 32768) × (j < 16) }
+    ensures read { result.0 ≡ hex_byte s.now at j }
+    ensures spelled { Told (hex_text (result.0 ∷ [])) s.now (at + 2 * j) result.1 (at + 2 * j + 2) }
+{
+    let high = fields::u8_at(s, at + 2 * j);
+    let low = fields::u8_at(s, at + 2 * j + 1);
+    let byte = (16 * u32::from(hex_value(high)) + u32::from(hex_value(low))) % 256;
+    (byte as u8, is_hex(high) & is_hex(low))
+}
+
+fn identifier(s: &[u8], at: usize) -> ([u8; 16], bool)
+    requires { at ≤ 32768 }
+    ensures read { result.0 ≡ series (hex_byte s.now at) 0 16 }
+    ensures spelled { Told (hex_text result.0) s.now at result.1 (at + 32) }
+{
+    let mut bytes = [0u8; 16];
+    let mut spelled = true;
+    for j in 0..16usize {
+        let (byte, is_spelled) = hex_byte(s, at, j);
+        bytes[j] = byte;
+        spelled = spelled & is_spelled;
+    }
+    (bytes, spelled)
+}
+
+fn identifier_line(s: &[u8], at: usize) -> ([u8; 16], bool)
+    requires { at ≤ 8192 }
+    ensures read { result.0 ≡ series (hex_byte s.now (at + 11)) 0 16 }
+    ensures spelled { Told (line (ascii "identifier=") (hex_text result.0)) s.now at result.1 (at + 44) }
+{
+    let (bytes, spelled) = identifier(s, at + 11);
+    let stops = fields::u8_at(s, at + 11 + 32) == b'\n';
+    (bytes, stands(b"identifier=", s, at) & (spelled & stops))
+}
+
+#[tactic(auto, unfolding(crate::specs::Reading::mark_lines_in))]
+pub(crate) fn mark_lines(s: &[u8], at: usize) -> (MarkLines, bool)
+    requires { at ≤ 91 }
+    ensures read { result.0 ≡ mark_lines_in s.now at }
+    ensures spelled { Told (mark_text result.0) s.now at result.1 result.0.next }
+    ensures bounds { result.0.next ≤ 221 }
+{
+    let (start, a) = number_line(b"start_mark=", 256, s, at);
+    let (end, b) = number_line(b"end_mark=", 256, s, start.next);
+    let (qualification, c) = number_line(b"qualification=", 256, s, end.next);
+    let (ordinal, d) = number_line(b"ordinal=", 65536, s, qualification.next);
+    let (identifier, e) = identifier_line(s, ordinal.next);
+    let lines = MarkLines {
+        start_mark: (start.value % 256) as u8,
+        end_mark: (end.value % 256) as u8,
+        qualification: (qualification.value % 256) as u8,
+        ordinal: (ordinal.value % 65536) as u16,
+        identifier,
+        next: ordinal.next + 44,
+    };
+    (lines, a & b & c & d & e)
+}
+
+// The minute of the date at `at`; 0 where no date is there.
+fn date(s: &[u8], at: usize) -> (Minute, bool)
+    ensures read { result.0 ≡ date_at s.now at }
+    ensures spelled { Told (print_of result.0) s.now at result.1 (at + 16) }
+{
+    match calendar::read_date(part(s, at, 16)) {
+        Ok(m) => (m, true),
+        Err(_) => (Minute(0), false),
+    }
+}
+
+#[inline(always)]
+fn date_line(name: &[u8], s: &[u8], at: usize) -> (Minute, bool)
+    requires { (at ≤ 8192) × (length name.now ≤ 16) }
+    ensures read { result.0 ≡ date_at s.now (at + length name.now) }
+    ensures spelled { Told (date_line name.now result.0) s.now at result.1 (at + length name.now + 17) }
+{
+    let (m, spelled) = date(s, at + name.len());
+    let stops = fields::u8_at(s, at + name.len() + 16) == b'\n';
+    (m, stands(name, s, at) & (spelled & stops))
+}
+
+#[tactic(auto, unfolding(crate::specs::Reading::date_lines_in))]
+pub(crate) fn date_lines(s: &[u8], at: usize) -> (DateLines, bool)
+    requires { at ≤ 221 }
+    ensures read { result.0 ≡ date_lines_in s.now at }
+    ensures spelled { Told (date_text result.0) s.now at result.1 result.0.next }
+    ensures bounds { result.0.next ≤ 288 }
+{
+    let (stamp, a) = date_line(b"stamp=", s, at);
+    let (start, b) = date_line(b"start=", s, at + 23);
+    let (end, c) = date_line(b"end=", s, at + 46);
+    let period = Period { start, end };
+    let lines = DateLines {
+        stamp,
+        period,
+        next: at + 67,
+    };
+    (lines, a & b & c)
+}
