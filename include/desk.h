@@ -36,6 +36,7 @@ extern "C" {
 #define DESK_MOST_PARTS 100      /* parts in a report */
 #define DESK_LONGEST_TEXT 200    /* a report's text */
 #define DESK_LONGEST_REPORT 1850 /* 50 + 16 for each part + the text */
+#define DESK_LONGEST_FORM 3584   /* no form is longer */
 #define DESK_DATE_SIZE 16        /* a date's characters, as in 2026-03-01 00:10, without a 0 at the end */
 
 /* The number in an answer: 0, or the first question that was answered "no". docs/SHIFT-LOG.md explains each of them. */
@@ -64,6 +65,8 @@ enum {
     DESK_REFUSED_BUFFER = 21,             /* set-up: the register is not 7,168 bytes for each entry */
     DESK_REFUSED_MINUTE = 22,             /* a date to print: the minute is after 2049-12-31 23:59 */
     DESK_REFUSED_DATE = 23,               /* a date to read: no minute has this text */
+    DESK_REFUSED_FORM = 24,               /* a form to read: no report has this form */
+    DESK_REFUSED_NO_FORM = 25,            /* a report to write as a form: it has none */
     DESK_REFUSED_ROOM = 43                /* what was lent has no room for the answer */
 };
 
@@ -131,6 +134,22 @@ uint64_t desk_read_date(const uint8_t *text, size_t text_length);
  * writes nothing.
  */
 uint32_t desk_print_date(uint32_t minute, uint8_t *text, size_t text_length);
+
+/*
+ * Writes a report as a form of lines, docs/FORM.md has them, into the first bytes of a form; the bytes after them stay, and no 0 is put
+ * at the end. No form is longer than DESK_LONGEST_FORM.
+ * Returns number + 2^32 * value: 0 and the form's length; 25 where the report has no form; else 43 where the form has no room. A refusal
+ * writes nothing. See desk_number_of and desk_value.
+ */
+uint64_t desk_write_form(const uint8_t *report, size_t report_length, uint8_t *form, size_t form_length);
+
+/*
+ * Reads a form, which is the one that desk_write_form writes for a report, and writes that report into the first bytes of a report; the
+ * bytes after them stay. No report is longer than DESK_LONGEST_REPORT.
+ * Returns number + 2^32 * value: 0 and the report's length; 24 where the text is the form of no report; else 43 where the report has no
+ * room. A refusal writes nothing.
+ */
+uint64_t desk_read_form(const uint8_t *form, size_t form_length, uint8_t *report, size_t report_length);
 
 #ifdef __cplusplus
 }

@@ -42,6 +42,8 @@ bad_words() {
   refused 2 'desk: show takes one FILE, or - for standard input' ./desk show one two
   refused 2 'desk: date takes a date such as 2026-03-01 00:10, a minute, or - for lines of them' ./desk date
   refused 2 'desk: date takes a date such as 2026-03-01 00:10, a minute, or - for lines of them' ./desk date 2026-03-01 00:10 7
+  refused 2 'desk: form takes one FILE, or - for standard input' ./desk form one two
+  refused 2 'desk: report takes a FILE of forms or - for standard input, and the ROSTER that comes first' ./desk report
   refused 2 'desk: compare takes nothing more' ./desk compare 7
   refused 1 'desk: no such file: no/such file' ./desk log 'no/such file'
   refused 1 'desk: a folder, not a file: samples' ./desk show samples
@@ -51,7 +53,7 @@ help_lists_every_word() {
   local word
   ./desk help > "$room/help"
   told 'no argument is not help' cmp -s "$room/help" <(./desk)
-  for word in log remarks set-up answer date show compare bench test help; do
+  for word in log remarks set-up answer date form report show compare bench test help; do
     told "help lacks $word" grep -q "^./desk $word " "$room/help"
   done
 }
@@ -108,6 +110,64 @@ dates() {
   refused 1 "typed_dates: standard output can't be written: No space left on device" bash -c 'echo 0 | ./desk date - > /dev/full'
   refused 1 "desk: standard output can't be written" bash -c './desk date 0 > /dev/full'
   cut_file
+}
+
+# told_forms LINES COMMAND..: these lines on standard error, beside which the others were written, and status 1
+told_forms() {
+  local lines=$1
+  shift
+  "$@" > "$room/out" 2> "$room/err" < /dev/null
+  told "$*: status $? and not 1" [ $? -eq 1 ]
+  told "$*: it said $(cat "$room/err")" diff "$room/err" <(printf '%s\n' "$lines")
+}
+
+# a stream to forms, forms to reports, and again
+forms() {
+  local stream=samples/evening.stream roster=samples/evening.roster
+  logged samples/evening.forms ./desk form "$stream"
+  logged <(tail -c +113 "$stream") ./desk report samples/evening.forms
+  logged "$stream" ./desk report samples/evening.forms "$roster"
+  logged "$stream" ./desk report - "$roster" < samples/evening.forms
+  told 'forms do not reach the log' cmp samples/evening.log <(./desk report samples/evening.forms "$roster" | ./desk log -)
+  logged <(grep -v '^$' samples/evening.forms) bash -c './desk form samples/evening.stream | grep -v "^$"'
+  logged <(tail -c +113 "$stream") ./desk report - < <(grep -v '^$' samples/evening.forms)
+  logged <(printf '') ./desk form - < /dev/null
+  logged <(printf '') ./desk report - < /dev/null
+  refused 1 'desk: no such file: no/such' ./desk report no/such
+  refused 1 $'desk: no such file: no/such\ndesk: the roster can'"'"'t be copied: no/such' ./desk report samples/evening.forms no/such
+  refused 0 'report_forms: the one argument that it takes is reports' target/bin/report_forms forms
+  refused 1 "report_forms: standard input can't be read: Is a directory" bash -c './desk report - < samples'
+  refused 1 "report_forms: standard input can't be read: Is a directory" bash -c './desk form - < samples'
+  refused 1 "report_forms: standard output can't be written: No space left on device" bash -c './desk form samples/evening.stream > /dev/full'
+  refused_forms
+}
+
+# one form of two is damaged: it is told with the line to look at, and the other is written
+refused_forms() {
+  local stop=$room/stop.form two=$room/two.forms line
+  sed -n '/^unit=1$/,/^text=/p' docs/FORM.md | sed -n '1,16p' > "$stop"
+  local refusal='report_forms: form 1, lines 1 to 16: 24,'
+  while IFS='|' read -r edit line; do
+    { sed "$edit" "$stop" && cat "$stop"; } > "$two"
+    told_forms "$line" ./desk report "$two"
+    told "$edit: the other form is not written" cmp "$room/out" <(./desk report "$stop")
+  done << END
+3s/2/02/|$refusal line 3 has no number in its range, or one with zeros in front, a sign or a blank
+s/^ordinal=1/ordinal=70000/|$refusal line 9 has no number in its range, or one with zeros in front, a sign or a blank
+s/^identifier=0/identifier=A/|$refusal line 10 has no 32 digits 0 to 9 and a to f
+s/^point=1 20000/point=1 020000/|$refusal line 15 has to be point=1 20000
+s/\$/\r/|$refusal it has a CR; a line ends in one line feed
+s/^direction=1/&\n/|report_forms: form 1, lines 1 to 17: 24, line 6 has to begin with start_mark=
+s/^resolution=60/resolution=15/|$refusal line 14 has to be resolution=60
+s/^owner/Owner/|$refusal line 2 has to begin with owner=
+s/^unit=1/unit=65/|$refusal its unit is not 1 to 64
+s/^owner=7/owner=1000/|$refusal its owner is not 1 to 999
+s/^type=2/type=7/|$refusal a field is out of range (question 4)
+s/^type=2/type=1/|$refusal its parts do not cover its period, or it may have none (question 8)
+s/^point=1/point=2/|$refusal its parts do not cover its period, or it may have none (question 8)
+s/^stamp=.*/stamp=2026-03-01 24:00/|$refusal line 11 has no date such as 2026-03-01 00:10
+s/^text=/text=\xc3\xa9/|$refusal its text is not printable ASCII
+END
 }
 
 # what was written before there was no more room is whole lines and a piece of one, and it is told
@@ -209,14 +269,28 @@ page_of_dates() {
   told "$page: $rows rows" [ "$rows" -ge 11 ]
 }
 
+# page_of_forms: each form of the page is read, and written back
+page_of_forms() {
+  local form forms=0
+  awk -v room="$room" '/^```$/ { inside = !inside; next } inside && /^unit=/ { n++ } inside && n { print > (room "/page" n ".form") }' docs/FORM.md
+  for form in "$room"/page*.form; do
+    forms=$((forms + 1))
+    told "FORM.md: form $forms is refused" bash -c './desk report "$1" > "$2"' - "$form" "$room/bytes"
+    logged "$form" ./desk form "$room/bytes"
+  done
+  told "FORM.md: $forms forms" [ "$forms" -eq 7 ]
+}
+
 bad_words
 page_for_the_shift
 page_of_dates
+page_of_forms
 excerpt cover 'Answer 8: which part'
 excerpt evening 'How to end a derating early'
 help_lists_every_word
 samples
 dates
+forms
 bare_folder
 builds
 unreadable_file

@@ -1,4 +1,4 @@
-/* How much stack a call takes, on a stack that was painted: reports of 1 and of 100 parts, accepted and refused; dates. */
+/* How much stack a call takes, on a stack that was painted: reports of 1 and of 100 parts, accepted and refused; dates; forms. */
 #include <stdio.h>
 #include <string.h>
 #include <ucontext.h>
@@ -75,6 +75,15 @@ static void there_and_back(void)
     answer += desk_number_of(desk_read_date(text, sizeof text));
 }
 
+/* The report is written as a form, and read back. */
+static void form_and_back(void)
+{
+    static uint8_t form[DESK_LONGEST_FORM], again[DESK_LONGEST_REPORT];
+    uint64_t wrote = desk_write_form(report, report_length, form, sizeof form);
+    answer = desk_number_of(wrote);
+    answer += desk_number_of(desk_read_form(form, desk_value(wrote), again, sizeof again));
+}
+
 static void (*called)(void) = judge;
 
 static size_t taken(void)
@@ -123,5 +132,8 @@ int main(void)
     failed |= measured("forced work that fits in each minute, not beside the highest derating", 0, 0);
     called = there_and_back;
     failed |= measured("a date printed and read", 0, 0);
+    called = form_and_back;
+    compose(2, 100);
+    failed |= measured("a report of 100 parts written as a form, and read", 0, 0);
     return failed;
 }

@@ -1,6 +1,6 @@
 /*
  * Paper 01's roster A and the five reports of its log, judged through the C interface; then parts that break cover, an empty report,
- * the remark, and dates. C99, and C++ as well. Build the library with `tools/build desk_c`; then, from the top of the repository:
+ * the remark, dates, and forms. C99, and C++ as well. Build the library with `tools/build desk_c`; then, from the top of the repository:
  *
  *     gcc -std=c99 -Iinclude examples/c/desk_example.c target/staticlib/libdesk.a -o example && ./example
  *
@@ -230,6 +230,30 @@ static void print_date(uint32_t minute, size_t room, uint32_t number, const char
     expect("the print differs", strcmp(text, wanted) != 0, 0);
 }
 
+/* A report as a form, which is printed, and the form read again; then places that are a byte short, a form and a report that is none. */
+static void there_and_back(const Report *r)
+{
+    static char form[DESK_LONGEST_FORM];
+    static uint8_t again[DESK_LONGEST_REPORT];
+    uint64_t wrote = desk_write_form(r->bytes, r->length, (uint8_t *)form, sizeof form);
+    size_t length = desk_value(wrote);
+    uint64_t read = desk_read_form((const uint8_t *)form, length, again, sizeof again);
+    printf("the form of report 1, %u bytes:\n%.*s", (unsigned)length, (int)length, form);
+    expect("number of a form", desk_number_of(wrote), DESK_ACCEPTED);
+    expect("number of what is read of it", desk_number_of(read), DESK_ACCEPTED);
+    expect("length of what is read of it", desk_value(read), (uint32_t)r->length);
+    expect("the report differs", memcmp(again, r->bytes, r->length) != 0, 0);
+    expect("a form a byte short of room", (uint32_t)desk_write_form(r->bytes, r->length, (uint8_t *)form, length - 1), DESK_REFUSED_ROOM);
+    expect("a report a byte short of room", (uint32_t)desk_read_form((const uint8_t *)form, length, again, r->length - 1),
+           DESK_REFUSED_ROOM);
+    expect("a form cut short", (uint32_t)desk_read_form((const uint8_t *)form, length - 1, again, sizeof again), DESK_REFUSED_FORM);
+    expect("a report cut short", (uint32_t)desk_write_form(r->bytes, r->length - 1, (uint8_t *)form, sizeof form),
+           DESK_REFUSED_NO_FORM);
+    expect("an empty form, NULL and 0", (uint32_t)desk_read_form(NULL, 0, again, sizeof again), DESK_REFUSED_FORM);
+    printf("read again: %u bytes, the same; cut short: %u and %u; without room: %u\n", (unsigned)desk_value(read), DESK_REFUSED_FORM,
+           DESK_REFUSED_NO_FORM, DESK_REFUSED_ROOM);
+}
+
 int main(void)
 {
     static uint8_t reg[UNITS * DESK_BLOCK_SIZE];
@@ -284,6 +308,7 @@ int main(void)
     print_date(D + 10, DESK_DATE_SIZE, DESK_ACCEPTED, "2026-03-01 00:10");
     print_date(26298720, DESK_DATE_SIZE, DESK_REFUSED_MINUTE, "................");
     print_date(D + 10, DESK_DATE_SIZE - 1, DESK_REFUSED_ROOM, "................");
+    there_and_back(&reports[0]);
 
     printf(unexpected ? "NOT all as expected\n" : "all as expected\n");
     return unexpected;

@@ -1,4 +1,4 @@
-//! Paper 01, the unit register, with requests A1 to A3 of paper 02, written from the papers alone:
+//! Paper 01, the unit register, with requests A1 to A4 of paper 02, written from the papers alone:
 //! an independent reference.
 //!
 //! The modules follow the sections of paper 01. Identifiers are the field's terms; where the
@@ -17,6 +17,8 @@ pub mod damage;
 pub mod early_ends;
 pub mod evening;
 pub mod fields;
+pub mod form_faults;
+pub mod forms;
 pub mod minutes;
 pub mod names;
 pub mod processor;
@@ -39,6 +41,7 @@ pub mod warnings;
 pub mod worked_examples;
 
 pub use calendar::{date, print_date, read_date};
+pub use forms::{read_form, write_form};
 pub use processor::{answer, Answer};
 pub use remark::remark;
 pub use setup::set_up;

@@ -1,15 +1,18 @@
-//! The command line: `log`, `remarks`, `sample NAME`, `random SEED COUNT`, `show`.
+//! The command line: `log`, `remarks`, `sample NAME`, `random SEED COUNT`, `show`, `forms`,
+//! `form NUMBER`, `report`.
 
+use reference::forms::{form_of, report_of};
 use reference::random::Random;
 use reference::sample::{sample, samples};
-use reference::shift_log::LOG_ENTRIES;
+use reference::shift_log::{reports, LOG_ENTRIES};
 use reference::show::show;
 use reference::source::{broken_report, Source};
 use std::io::{BufWriter, Read, Write};
 use std::process::ExitCode;
 
 const USAGE: &str = "use: reference log | reference remarks | reference sample NAME | \
-                     reference random SEED COUNT | reference show";
+                     reference random SEED COUNT | reference show | reference forms | \
+                     reference form NUMBER | reference report";
 
 fn main() -> ExitCode {
     let arguments: Vec<String> = std::env::args_os()
@@ -35,6 +38,12 @@ fn run(arguments: &[&str]) -> Result<(), String> {
         ["show"] => match show(&read_all()?) {
             Some(text) => write_all(text.as_bytes()),
             None => Err("the input is neither a register nor a stream".to_string()),
+        },
+        ["forms"] => write_forms(&read_all()?),
+        ["form", number] => write_form(&read_all()?, self::number("NUMBER", number)?),
+        ["report"] => match report_of(&read_all()?) {
+            Ok(report) => write_all(&report),
+            Err(number) => Err(format!("the input is no form: {number}")),
         },
         _ => Err(USAGE.to_string()),
     }
@@ -77,6 +86,26 @@ fn write_random(seed: u64, count: u64) -> Result<(), String> {
         }
     }
     output.flush().map_err(|error| cannot_write(&error))
+}
+
+/// The forms of the stream's reports that have one, an empty line between two of them.
+fn write_forms(stream: &[u8]) -> Result<(), String> {
+    let reports = reports(stream).into_iter();
+    let forms: Vec<Vec<u8>> = reports.filter_map(|report| form_of(report).ok()).collect();
+    write_all(&forms.join(&b'\n'))
+}
+
+/// The form of one report of a stream, by its place from 1.
+fn write_form(stream: &[u8], place: u64) -> Result<(), String> {
+    let place = usize::try_from(place).unwrap_or(usize::MAX);
+    let report = place
+        .checked_sub(1)
+        .and_then(|index| reports(stream).get(index).copied());
+    match report.map(form_of) {
+        Some(Ok(form)) => write_all(&form),
+        Some(Err(number)) => Err(format!("report {place} has no form: {number}")),
+        None => Err(format!("the input has no report {place}")),
+    }
 }
 
 fn number(name: &str, text: &str) -> Result<u64, String> {

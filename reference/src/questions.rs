@@ -282,12 +282,8 @@ pub fn question_8_cover(case: &Case) -> bool {
 }
 
 /// Question 8 with the number of the part that is wrong. More than 100 parts are no whole report.
-fn cover_verdict(report: &Report) -> Result<(), u32> {
-    let Record {
-        record_type, parts, ..
-    } = &report.record;
-    let may_be = record_type.has_parts() && report.operation != Operation::Withdraw;
-    match (may_be, parts.is_empty()) {
+pub fn cover_verdict(report: &Report) -> Result<(), u32> {
+    match (report.has_parts(), report.record.parts.is_empty()) {
         (true, false) => report.parts.cover,
         (false, true) => Ok(()),
         // "a missing list, or a list where none may be, names 0"

@@ -110,6 +110,11 @@ impl Report<'_> {
     pub fn empties_slot(&self) -> bool {
         self.operation == Operation::Withdraw || self.ends_early
     }
+
+    /// Types 2 to 4, but for withdrawals: question 8 asks for parts.
+    pub fn has_parts(&self) -> bool {
+        self.record.record_type.has_parts() && self.operation != Operation::Withdraw
+    }
 }
 
 /// What questions 4, 7, 8, 9 and 16 ask of a report's parts, found in one pass.
@@ -162,6 +167,16 @@ fn parts_marked(parts: &[[u8; PART_SIZE]]) -> bool {
 }
 
 impl<'a> WholeReport<'a> {
+    /// A head without parts and text, so that questions can be asked of it alone.
+    pub fn of_head(head: &'a [u8; HEAD_SIZE]) -> WholeReport<'a> {
+        WholeReport {
+            bytes: head,
+            head,
+            parts: &[],
+            text: &[],
+        }
+    }
+
     /// A field of one byte as it stands.
     pub fn byte(&self, at: usize) -> u8 {
         self.head[at]

@@ -76,6 +76,15 @@ impl Totals {
     }
 }
 
+/// The reports of an input in order, up to one that is cut short.
+pub fn reports(input: &[u8]) -> Vec<&[u8]> {
+    let mut reader = Reader { input };
+    match reader.roster() {
+        Some(_) => std::iter::from_fn(|| reader.report()).collect(),
+        None => Vec::new(),
+    }
+}
+
 /// The log of an input: roster entries, then reports.
 pub fn shift_log(input: &[u8]) -> Vec<u8> {
     log(input, Ending::Stamp)

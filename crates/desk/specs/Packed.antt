@@ -1,8 +1,11 @@
--- An answer in one word, a remark's number and source, and a date's number and minute, as the C interface gives them.
+-- An answer in one word, a remark's number and source, a date's number and minute, and a form's or report's number and length, as the C
+-- interface gives them.
 use Rattle.std.specs.Prelude.{ℕ, ◌+◌, ◌*◌, List, length, Option, Some, None, Result, Ok, Err}
 use Rattle.quantities.specs.declared.Minute.{Minute}
 use Rattle.calendar.specs.declared.DateError.{DateError}
 use Rattle.calendar.specs.Refusals.{number_of}
+use Rattle.forms.specs.declared.FormError.{FormError}
+use Rattle.forms.specs.Refusals.{number_of as form_number_of}
 use Rattle.report.specs.declared.RemarkPlace.{RemarkPlace}
 use Rattle.report.specs.declared.RemarkPlace.TheVariants.{Standing, InReport}
 use Rattle.rules.specs.declared.Answer.{Answer}
@@ -32,3 +35,8 @@ remark_length None standing = 0
 abbrev pub packed_date : Result Minute DateError → ℕ
 packed_date (Ok m) = 4294967296 * m.0
 packed_date (Err e) = number_of e
+
+-- the number in the low half, the length of what was written in the high one; beside a refusal's number the length is 0
+abbrev pub packed_length : Result ℕ FormError → ℕ
+packed_length (Ok n) = 4294967296 * n
+packed_length (Err e) = form_number_of e

@@ -1,7 +1,7 @@
 // The desk: set-up, the answer to a report on the register, and what C is answered: `desk_c` exports the functions that begin with desk_.
 #![tactic(auto)]
 
-ghost use Rattle.std.specs.Prelude.{◌≡◌, ◌≤◌, true, Ok, Err, is_ok, eqb};
+ghost use Rattle.std.specs.Prelude.{◌≡◌, ◌≤◌, ◌<◌, true, Ok, Err, IfOk, is_ok, eqb};
 ghost use Rattle.report.specs.Report.{most_parts, part_count_of};
 ghost use Rattle.report.specs.Remark.{remark_place};
 ghost use Rattle.fields.specs.Lists.{pick};
@@ -11,10 +11,13 @@ ghost use Rattle.rules.specs.Block.{unit_head};
 ghost use Rattle.rules.specs.Whole.{block_whole};
 ghost use Rattle.calendar.specs.Refusals.{answer_number};
 ghost use Rattle.calendar.specs.Reading.{date_read, put_answer, date_put};
-ghost use Rattle.desk.specs.Packed.{packed, packed_remark, remark_start, remark_length, packed_date};
+ghost use Rattle.forms.specs.Lent.{form_written, length_given, buffer_after};
+ghost use Rattle.form_reading.specs.Reading.{form_read};
+ghost use Rattle.desk.specs.Packed.{packed, packed_remark, remark_start, remark_length, packed_date, packed_length};
 
 use after::Plan;
 use block::BLOCK_SIZE;
+use forms::FormError;
 use quantities::Minute;
 use report::RemarkPlace;
 use rules::{Answer, Refusal};
@@ -157,4 +160,31 @@ pub fn desk_print_date(minute: u32, text: &mut [u8]) -> u32
         Ok(()) => 0,
         Err(error) => u32::from(u8::from(error)),
     }
+}
+
+// A length beside 0, or a refusal's number.
+fn packed_length(outcome: Result<usize, FormError>) -> u64
+    requires { IfOk outcome (λ n. n < 4294967296) }
+    ensures { result ≡ packed_length outcome }
+{
+    match outcome {
+        Ok(length) => 4294967296 * length as u64,
+        Err(error) => u64::from(u8::from(error)),
+    }
+}
+
+// For C: 2^32 times the form's length, or 25 or 43.
+pub fn desk_write_form(report: &[u8], form: &mut [u8]) -> u64
+    ensures value { result ≡ packed_length (length_given (form_written report.now) form.old) }
+    ensures form_after { form.new ≡ buffer_after (form_written report.now) form.old }
+{
+    packed_length(forms::write_form(report, form))
+}
+
+// For C: 2^32 times the report's length, or 24 or 43.
+pub fn desk_read_form(form: &[u8], report: &mut [u8]) -> u64
+    ensures value { result ≡ packed_length (length_given (form_read form.now) report.old) }
+    ensures report_after { report.new ≡ buffer_after (form_read form.now) report.old }
+{
+    packed_length(form_reading::read_form(form, report))
 }

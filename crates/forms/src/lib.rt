@@ -1,7 +1,7 @@
 // Reports written as a form of lines.
 #![tactic(auto)]
 
-ghost use Rattle.std.specs.Prelude.{◌≡◌, true, List, [], ◌∷◌, ℕ, ◌+◌, ◌*◌, ◌≤◌, length, drop, pos, Ok};
+ghost use Rattle.std.specs.Prelude.{◌≡◌, true, List, [], ◌∷◌, ℕ, ◌+◌, ◌*◌, ◌≤◌, length, drop, pos, Ok, IfOk};
 ghost use Rattle.std.specs.Int.Signed.{le_z};
 ghost use Rattle.fields.specs.Lists.{all, series};
 ghost use Rattle.fields.specs.Ascii.{ascii};
@@ -363,6 +363,7 @@ pub fn has_form(report: &[u8]) -> bool
 pub fn lay(bytes: &[u8], buffer: &mut [u8]) -> Result<usize, FormError>
     ensures value { result ≡ length_given (Ok bytes.now) buffer.old }
     ensures buffer_after { buffer.new ≡ buffer_after (Ok bytes.now) buffer.old }
+    ensures bounds { IfOk result (λ n. (n ≤ length buffer.old) × (n ≤ length bytes.now)) }
 {
     if buffer.len() < bytes.len() {
         return Err(FormError::NoRoom);
@@ -373,7 +374,8 @@ pub fn lay(bytes: &[u8], buffer: &mut [u8]) -> Result<usize, FormError>
 
 // The form of a report, in the scratch; 25 where it has none.
 pub fn form_in<'a>(report: &[u8], scratch: &'a mut [u8; MOST_FORM]) -> Result<&'a [u8], FormError>
-    ensures { bytes_given result ≡ form_written report.now }
+    ensures value { bytes_given result ≡ form_written report.now }
+    ensures bound { IfOk result (λ form. length form.now ≤ 3584) }
 {
     if !has_form(report) {
         return Err(FormError::NoForm);
@@ -387,6 +389,7 @@ pub fn form_in<'a>(report: &[u8], scratch: &'a mut [u8; MOST_FORM]) -> Result<&'
 pub fn write_form(report: &[u8], form: &mut [u8]) -> Result<usize, FormError>
     ensures value { result ≡ length_given (form_written report.now) form.old }
     ensures form_after { form.new ≡ buffer_after (form_written report.now) form.old }
+    ensures bounds { IfOk result (λ n. (n ≤ length form.old) × (n ≤ 3584)) }
 {
     let mut scratch = [0u8; MOST_FORM];
     let bytes = form_in(report, &mut scratch)?;

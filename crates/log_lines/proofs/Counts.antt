@@ -16,7 +16,7 @@ use Rattle.log_lines.specs.declared.Totals.{Totals}
 use Rattle.log_lines.specs.declared.Progress.{Progress}
 use Rattle.log_lines.specs.declared.Logged.{Logged}
 use Rattle.log_lines.specs.Log.{is_clean, is_warned, is_refused, count_of, totals_of, line_with, log_line, totals_line}
-use Rattle.log_lines.specs.Texts.{Puts}
+use Rattle.texts.specs.Texts.{Puts}
 use Rattle.log_lines.specs.Run.{most_counted, one_more, count_answer, progress_after, at_start, logged_at, logged_with}
 use Rattle.log_lines.specs.Run.{log_from, lines_of, log_of}
 

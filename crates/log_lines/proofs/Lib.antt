@@ -1,4 +1,3 @@
-pub mod Texts
 pub mod Counts
 pub mod RosterA
 pub mod Shown

@@ -19,7 +19,8 @@ use Rattle.rules.specs.Desk.{new_register, set_up, answers}
 use Rattle.rules.proofs.Worked.{good, logged-right}
 use Rattle.calendar.specs.Calendar.{days_in, month_start, month_of, date_of, date_text}
 use Rattle.calendar.proofs.MonthSums.{month-here}
-use Rattle.log_lines.specs.Log.{decimal_before, log_header, unit_text, stamp_text, line_text, count_of, totals_of, totals_line}
+use Rattle.texts.specs.Numerals.{decimal_before}
+use Rattle.log_lines.specs.Log.{log_header, unit_text, stamp_text, line_text, count_of, totals_of, totals_line}
 use Rattle.log_lines.specs.Run.{entries_read, stated_length, reports_read, lines_of, shift_log}
 use Rattle.log_lines.specs.RosterA.{one_after_other, stream_a, log_a}
 

@@ -5,10 +5,10 @@ use mathlib.Core.List.{List, [], ◌∷◌, ◌++◌, append_assoc, append-nil}
 use native.Mathlib.Omega.{arith}
 use lib.ListN.{length, take, get_or}
 use lib.Seq.{take-suc}
-use Rattle.log_lines.specs.declared.Text.{Text}
-use Rattle.log_lines.specs.Texts.{Writes}
+use Rattle.texts.specs.declared.Text.{Text}
+use Rattle.texts.specs.Texts.{Writes}
 use Rattle.log_lines.specs.Remarks.{shown_byte, shown}
-use Rattle.log_lines.proofs.Texts.{then, same_text}
+use Rattle.texts.proofs.Texts.{then, same_text}
 
 shown-append : (xs ys : List ℕ) → shown (xs ++ ys) ≡ shown xs ++ shown ys
 unfolding shown

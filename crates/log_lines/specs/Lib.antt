@@ -1,4 +1,3 @@
-pub mod Texts
 pub mod Log
 pub mod Remarks
 pub mod Run

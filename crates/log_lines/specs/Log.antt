@@ -1,32 +1,14 @@
 -- Paper 01, "The shift log": a report's line and the totals, as ASCII.
-use Rattle.std.specs.Prelude.{ℕ, zero, suc, ◌+◌, ◌/◌, Bool, not, ◌&&◌, List, [], ◌∷◌, ◌++◌, ltb, eqb}
+use Rattle.std.specs.Prelude.{ℕ, ◌+◌, Bool, not, ◌&&◌, List, [], ◌∷◌, ◌++◌, eqb}
 use Rattle.fields.specs.Lists.{pick}
 use Rattle.quantities.specs.declared.Minute.{Minute}
 use Rattle.quantities.specs.Quantities.{is_time}
-use Rattle.calendar.specs.Calendar.{digit, date_of, date_text}
+use Rattle.calendar.specs.Calendar.{date_of, date_text}
 use Rattle.report.specs.Report.{head_of}
 use Rattle.rules.specs.declared.Answer.{Answer}
 use Rattle.log_lines.specs.declared.Totals.{Totals}
 use Rattle.fields.specs.Ascii.{ascii}
-
--- a number in decimal, without leading zeros, before a text: up to `places` digits
-unfoldable pub decimal_before : ℕ → ℕ → List ℕ → List ℕ
-decimal_before zero n text = text
-decimal_before (suc places) n text =
-    pick (ltb n 10) (digit n ∷ text) (decimal_before places (n / 10) (digit n ∷ text))
-
--- twenty digits hold every 64-bit number
-abbrev pub decimal : ℕ → List ℕ
-decimal n = decimal_before 20 n []
-
-abbrev pub space : List ℕ
-space = ascii " "
-
-abbrev pub line_feed : List ℕ
-line_feed = ascii "\n"
-
-abbrev pub hyphen : List ℕ
-hyphen = ascii "-"
+use Rattle.texts.specs.Numerals.{decimal, space, line_feed, hyphen}
 
 abbrev pub header_text : List ℕ
 header_text = ascii "no unit answer warn part stamp"

@@ -1,14 +1,11 @@
 -- The log with each report's remark beside its line, "shown beside the answer and no part of it".
-use Rattle.std.specs.Prelude.{ℕ, ◌+◌, ◌/◌, ◌%◌, ◌&&◌, List, [], ◌∷◌, ◌++◌, leb, ltb, eqb}
+use Rattle.std.specs.Prelude.{ℕ, ◌/◌, ◌%◌, ◌&&◌, List, [], ◌∷◌, ◌++◌, leb, eqb}
 use Rattle.fields.specs.Lists.{pick}
 use Rattle.report.specs.Remark.{remark_of}
 use Rattle.rules.specs.declared.Answer.{Answer}
 use Rattle.fields.specs.Ascii.{ascii}
-use Rattle.log_lines.specs.Log.{line_feed, header_text, line_text}
-
--- 0 to 15 as 0 to 9 and a to f
-abbrev pub hex_digit : ℕ → ℕ
-hex_digit n = pick (ltb n 10) (48 + n) (87 + n)
+use Rattle.texts.specs.Numerals.{hex_digit, line_feed}
+use Rattle.log_lines.specs.Log.{header_text, line_text}
 
 -- a backslash twice, 20 to 7E as they are, every other byte as \x and two hex digits
 unfoldable pub shown_byte : ℕ → List ℕ

@@ -2,19 +2,19 @@
 // No line is longer than 128 bytes, and none with a remark than 1,024; what a shorter text has no room for is left out.
 #![tactic(auto)]
 
-ghost use Rattle.std.specs.Prelude.{◌≡◌, List, [], ◌++◌, ℕ, ◌+◌, ◌*◌, ◌≤◌, ◌<◌, length};
+ghost use Rattle.std.specs.Prelude.{◌≡◌, List, [], ◌∷◌, ◌++◌, ℕ, ◌+◌, ◌*◌, ◌/◌, ◌%◌, ◌≤◌, ◌<◌, length};
 ghost use Rattle.std.proofs.Common.{rules};
 ghost use Rattle.fields.specs.Lists.{pick, put};
 ghost use Rattle.fields.specs.Ascii.{ascii};
-ghost use Rattle.calendar.specs.Calendar.{digit as digit_of};
 ghost use Rattle.rules.specs.declared.Answer.{Answer};
 ghost use Rattle.rules.specs.Desk.{answer_to};
 ghost use Rattle.log_lines.specs.declared.Progress.{Progress};
 ghost use Rattle.report.specs.Report.{most_parts, most_text, parts_start, text_after};
-ghost use Rattle.log_lines.specs.Texts.{Writes, Puts};
-ghost use Rattle.log_lines.specs.Log.{decimal, space, line_feed, fault_line, set_up_line, unit_text, stamp_text, number_column};
+ghost use Rattle.texts.specs.Texts.{Writes, Puts};
+ghost use Rattle.texts.specs.Numerals.{decimal, hex_digit, space, line_feed};
+ghost use Rattle.log_lines.specs.Log.{fault_line, set_up_line, unit_text, stamp_text, number_column};
 ghost use Rattle.log_lines.specs.Log.{line_text, log_header, header_with, log_line, line_with, totals_line};
-ghost use Rattle.log_lines.specs.Remarks.{hex_digit, shown_byte, shown, remark_title, remark_column, remark_line, remarks_header};
+ghost use Rattle.log_lines.specs.Remarks.{shown_byte, shown, remark_title, remark_column, remark_line, remarks_header};
 ghost use Rattle.log_lines.specs.Run.{entry_begins, stated_length, most_counted, one_more, count_answer, progress_after, at_start};
 ghost use Rattle.log_lines.specs.Run.{logged_at, logged_after, remark_logged, logged_after_with, next_line_with, log_from, log_of, shift_log};
 ghost use Rattle.log_lines.specs.RosterA.{stream_a, log_a};
@@ -22,6 +22,7 @@ ghost use Rattle.log_lines.specs.RosterA.{stream_a, log_a};
 use quantities::Minute;
 use report::{MOST_PARTS, MOST_TEXT, PART_SIZE, PARTS_START};
 use rules::Answer;
+use texts::Text;
 
 // The reports accepted clean, accepted with warnings, and refused.
 #[derive(Clone, Copy, Default)]
@@ -48,119 +49,77 @@ pub struct Logged {
     pub ends: bool,
 }
 
-// A text that is put piece by piece from the start of the bytes. `end` is the place after it, and counts what was left out as well.
-#[derive(Drop)]
-pub struct Text<'a> {
-    bytes: &'a mut [u8],
-    end: usize,
-}
-
-// `calendar` has the same of a u32: called here it would need `n % 10` made narrower, and a law that the digit is the same.
-fn digit(n: u64) -> u8
-    ensures { result ≡ digit_of n }
+fn put_number(text: &mut Text, n: u64)
+    ensures { Writes 21 text.old (number_column n) text.new }
 {
-    (48 + n % 10) as u8
+    text.put_decimal(n);
+    text.put(b" ");
 }
 
-// By hand, as `put_decimal` and for its reason.
-#[tactic(auto, unfolding(fields::specs::Lists::pick))]
-fn hex_digit(n: u8) -> u8
-    requires { n < 16 }
-    ensures { result ≡ hex_digit n }
+#[tactic(auto, using(texts::proofs::Texts::same_text), unfolding(crate::specs::Log::unit_text, fields::specs::Lists::pick))]
+fn put_unit(text: &mut Text, number: u8, unit: u32)
+    ensures { Writes 21 text.old (unit_text number unit ++ space) text.new }
 {
-    if n < 10 { 48 + n } else { 87 + n }
+    if number == 2 {
+        text.put(b"- ");
+    } else {
+        put_number(text, unit as u64);
+    }
 }
 
-impl<'a> Text<'a> {
-    fn new(bytes: &'a mut [u8]) -> Text<'a>
-        ensures same_reference { result.bytes.ghost_name ≡ bytes.entry.ghost_name }
-        ensures bytes { result.bytes.now ≡ bytes.old }
-        ensures end { result.end ≡ 0 }
-    {
-        Text { bytes, end: 0 }
+// The date, or "-".
+#[tactic(auto, using(texts::proofs::Texts::same_text), unfolding(crate::specs::Log::stamp_text, fields::specs::Lists::pick))]
+fn put_stamp(text: &mut Text, number: u8, stamp: Minute)
+    ensures { Writes 16 text.old (stamp_text number stamp) text.new }
+{
+    match calendar::print_date(stamp) {
+        Ok(date) if number != 2 => text.put(&date),
+        _ => text.put(b"-"),
     }
+}
 
-    fn put(&mut self, word: &[u8])
-        ensures { Writes (length word.now) self.old word.now self.new }
-    {
-        fields::put_bytes(self.bytes, self.end, word);
-        self.end = self.end.saturating_add(word.len());
+// The columns that every log has. The answer comes as `told` has it: each column is one of its numbers.
+fn put_columns(text: &mut Text, line: u64, report: &[u8], a: Answer)
+    ensures { Writes 121 text.old (line_text line report.now a) text.new }
+{
+    let h = reader::line_head(report);
+    put_number(text, line);
+    put_unit(text, a.number, h.unit);
+    put_number(text, a.number as u64);
+    put_number(text, a.warnings as u64);
+    put_number(text, a.part as u64);
+    put_stamp(text, a.number, h.stamp);
+}
+
+// Backslash, x and two hex digits.
+fn put_escape(text: &mut Text, b: u8)
+    ensures { Writes 4 text.old (ascii "\\x" ++ (hex_digit (b / 16) ∷ hex_digit (b % 16) ∷ [])) text.new }
+{
+    text.put(b"\\x");
+    text.put_hex(b);
+}
+
+#[tactic(auto, using(texts::proofs::Texts::same_text), unfolding(crate::specs::Remarks::shown_byte, fields::specs::Lists::pick))]
+fn put_shown_byte(text: &mut Text, b: u8)
+    ensures { Writes 4 text.old (shown_byte b) text.new }
+{
+    if b == b'\\' {
+        text.put(b"\\\\");
+    } else if (0x20 <= b) & (b <= 0x7E) {
+        text.put(&[b]);
+    } else {
+        put_escape(text, b);
     }
+}
 
-    // By hand: `write!` promises its text only where it answers Ok, and the kit's `itoa` would be one more crate to trust.
-    fn put_decimal(&mut self, n: u64)
-        ensures { Writes 20 self.old (decimal n) self.new }
-    {
-        if n >= 10 {
-            self.put_decimal(n / 10);
-        }
-        self.put(&[digit(n)]);
-    }
-
-    fn put_number(&mut self, n: u64)
-        ensures { Writes 21 self.old (number_column n) self.new }
-    {
-        self.put_decimal(n);
-        self.put(b" ");
-    }
-
-    #[tactic(auto, using(crate::proofs::Texts::same_text), unfolding(crate::specs::Log::unit_text, fields::specs::Lists::pick))]
-    fn put_unit(&mut self, number: u8, unit: u32)
-        ensures { Writes 21 self.old (unit_text number unit ++ space) self.new }
-    {
-        if number == 2 {
-            self.put(b"- ");
-        } else {
-            self.put_number(unit as u64);
-        }
-    }
-
-    // The date, or "-".
-    #[tactic(auto, using(crate::proofs::Texts::same_text), unfolding(crate::specs::Log::stamp_text, fields::specs::Lists::pick))]
-    fn put_stamp(&mut self, number: u8, stamp: Minute)
-        ensures { Writes 16 self.old (stamp_text number stamp) self.new }
-    {
-        match calendar::print_date(stamp) {
-            Ok(date) if number != 2 => self.put(&date),
-            _ => self.put(b"-"),
-        }
-    }
-
-    // The columns that every log has. The answer comes as `told` has it: each column is one of its numbers.
-    fn put_columns(&mut self, line: u64, report: &[u8], a: Answer)
-        ensures { Writes 121 self.old (line_text line report.now a) self.new }
-    {
-        let h = reader::line_head(report);
-        self.put_number(line);
-        self.put_unit(a.number, h.unit);
-        self.put_number(a.number as u64);
-        self.put_number(a.warnings as u64);
-        self.put_number(a.part as u64);
-        self.put_stamp(a.number, h.stamp);
-    }
-
-    #[tactic(auto, using(crate::proofs::Texts::same_text), unfolding(crate::specs::Remarks::shown_byte, fields::specs::Lists::pick))]
-    fn put_shown_byte(&mut self, b: u8)
-        ensures { Writes 4 self.old (shown_byte b) self.new }
-    {
-        if b == b'\\' {
-            self.put(b"\\\\");
-        } else if (0x20 <= b) & (b <= 0x7E) {
-            self.put(&[b]);
-        } else {
-            self.put(&[b'\\', b'x', hex_digit(b / 16), hex_digit(b % 16)]);
-        }
-    }
-
-    // A bar, and the bytes of a remark as they are shown.
-    #[tactic(auto, unfolding(crate::specs::Remarks::shown))]
-    fn put_shown(&mut self, remark: &[u8])
-        ensures { Writes (3 + 4 * length remark.now) self.old (ascii " | " ++ shown remark.now) self.new }
-    {
-        self.put(b" | ");
-        for b in remark {
-            self.put_shown_byte(*b);
-        }
+// A bar, and the bytes of a remark as they are shown.
+#[tactic(auto, unfolding(crate::specs::Remarks::shown))]
+fn put_shown(text: &mut Text, remark: &[u8])
+    ensures { Writes (3 + 4 * length remark.now) text.old (ascii " | " ++ shown remark.now) text.new }
+{
+    text.put(b" | ");
+    for b in remark {
+        put_shown_byte(text, *b);
     }
 }
 
@@ -221,8 +180,8 @@ impl Lines for WithRemarks {
 
     fn put_column(text: &mut Text, report: &[u8]) {
         match report::remark(report, b"no remark") {
-            Ok(found) => text.put_shown(found),
-            Err(refused) => text.put_shown(refused.stretch),
+            Ok(found) => put_shown(text, found),
+            Err(refused) => put_shown(text, refused.stretch),
         }
     }
 
@@ -237,7 +196,7 @@ pub fn put_header<L: Lines>(text: &mut [u8]) -> usize
     text.put(b"no unit answer warn part stamp");
     text.put(L::title());
     text.put(b"\n");
-    text.end
+    text.end()
 }
 
 // The line of a report with its answer, at the start of the text; its length.
@@ -245,10 +204,10 @@ pub fn put_line<L: Lines>(text: &mut [u8], line: u64, report: &[u8], a: Answer) 
     ensures { Puts (128 + L.room) text.old (line_with L.column line report.now a) text.new result }
 {
     let mut text = Text::new(text);
-    text.put_columns(line, report, a);
+    put_columns(&mut text, line, report, a);
     L::put_column(&mut text, report);
     text.put(b"\n");
-    text.end
+    text.end()
 }
 
 pub fn put_totals(text: &mut [u8], t: Totals) -> usize
@@ -256,11 +215,11 @@ pub fn put_totals(text: &mut [u8], t: Totals) -> usize
 {
     let mut text = Text::new(text);
     text.put(b"total ");
-    text.put_number(t.clean);
-    text.put_number(t.warned);
+    put_number(&mut text, t.clean);
+    put_number(&mut text, t.warned);
     text.put_decimal(t.refused);
     text.put(b"\n");
-    text.end
+    text.end()
 }
 
 // A number after a word, on a line of its own.
@@ -272,7 +231,7 @@ fn put_number_line(text: &mut [u8], word: &[u8], n: u64) -> usize
     text.put(word);
     text.put_decimal(n);
     text.put(b"\n");
-    text.end
+    text.end()
 }
 
 // What is printed where set-up refuses the roster. By number: `SetUpError` would refuse other numbers to callers.

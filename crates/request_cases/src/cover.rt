@@ -2,7 +2,8 @@
 ghost use Rattle.std.specs.Prelude.{◌≡◌, ◌+◌, ◌*◌};
 
 use crate::lines::print_line;
-use report::{Operation, PART_SIZE, PARTS_START, RecordType};
+use quantities::{Minute, Period, SignedKilowatt};
+use report::{Operation, PART_SIZE, PARTS_START, Part, RecordType};
 use sent_reports::{D, derating_over, fresh_register};
 use std::{fmt, io};
 
@@ -48,13 +49,18 @@ fn offset_of(number: u16) -> usize
     PARTS_START + PART_SIZE * (number as usize) - PART_SIZE
 }
 
-// As the one in `sent_reports`, which has a `requires` and so is private there.
 fn put_part(report: &mut [u8], number: u16) {
-    let at = offset_of(number);
-    fields::put_u32(report, at, 0x4B50);
-    fields::put_u32(report, at + START, end_of(number) - 15);
-    fields::put_u32(report, at + END, end_of(number));
-    fields::put_u32(report, at + 12, 20000);
+    let end = end_of(number);
+    let period = Period {
+        start: Minute(end - 15),
+        end: Minute(end),
+    };
+    let power = SignedKilowatt(20000);
+    fields::put_bytes(
+        report,
+        offset_of(number),
+        &encoder::part_bytes(Part { period, power }),
+    );
 }
 
 // A derating of so many quarter hours, in as many parts, as far as there is room.

@@ -1,58 +1,32 @@
 -- The puts of a report's fields as one put, and what is read of it. Assumes nothing.
-use Prim.Native.Nat.{ℕ, ◌+◌, ◌-◌, ◌<◌, ◌≤◌}
+use Prim.Native.Nat.{ℕ, ◌-◌, ◌≤◌}
 use mathlib.Core.Path.{◌≡◌, refl}
 use mathlib.Core.Bool.{Bool, true, false}
-use mathlib.Core.List.{List, [], ◌∷◌}
+use mathlib.Core.List.{List, []}
 use native.Mathlib.Omega.{arith}
-use lib.ListN.{length, replicate, take}
+use lib.ListN.{length, take}
 use Rattle.std.specs.Prelude.{Option, Some, None}
-use Rattle.std.specs.Int.{w32}
-use mir.ValLaws.{of_z-to_z}
 use Rattle.fields.specs.Fields.{bytes_of}
 use Rattle.fields.specs.Lists.{pick, part, put}
 use Rattle.fields.proofs.Slices.{part-put as put_read}
-use Rattle.report.specs.Report.{report_mark, part_mark, text_mark, text_after}
-use Rattle.report.specs.Encoded.{encode_head, encode_parts, encode_report}
-use Rattle.rules.specs.Codes.{is_levelled, create, generation, planned}
+use Rattle.report.specs.Report.{text_mark, text_after}
+use Rattle.report.specs.Encoded.{encode_head, encode_part, encode_parts, encode_report}
+use Rattle.rules.specs.Codes.{is_levelled}
 use Rattle.sent_reports.specs.declared.Sent.{Sent}
 use Rattle.sent_reports.specs.declared.Step.{Step}
-use Rattle.sent_reports.specs.Sent.{length_sent, parts_sent, step_parts, part_sent, levels_sent, head_sent, report_sent}
+use Rattle.sent_reports.specs.Sent.{length_sent, step_parts, part_sent, levels_sent, head_sent, report_sent}
 use Rattle.sent_reports.proofs.Puts.{put_on}
 
-pub head_put : (s : List ℕ) (x : Sent)
-    → put (put (put (put (put (put (put (put (put (put (put s 0 (bytes_of 2 report_mark)) 2 (bytes_of 2 x.unit)) 4 (bytes_of 2 x.owner))
-    6 (x.record_type.0 ∷ create ∷ generation ∷ x.start_mark.0 ∷ planned ∷ x.qualification ∷ [])) 12 (bytes_of 2 1)) 14 (bytes_of 2 (parts_sent x)))
-    16 (replicate 16 x.place)) 32 (bytes_of 4 x.stamp)) 36 (bytes_of 4 x.start)) 40 (bytes_of 4 x.end)) 44 (bytes_of 4 0)
-    ≡ put s 0 (encode_head (head_sent x))
-unfolding bytes_of encode_head
-head_put s x =
-    put_on s 0 _ (bytes_of 4 0)
-    (put_on s 0 _ (bytes_of 4 x.end)
-    (put_on s 0 _ (bytes_of 4 x.start)
-    (put_on s 0 _ (bytes_of 4 x.stamp)
-    (put_on s 0 _ (replicate 16 x.place)
-    (put_on s 0 _ (bytes_of 2 (parts_sent x))
-    (put_on s 0 _ (bytes_of 2 1)
-    (put_on s 0 _ (x.record_type.0 ∷ create ∷ generation ∷ x.start_mark.0 ∷ planned ∷ x.qualification ∷ [])
-    (put_on s 0 _ (bytes_of 2 x.owner)
-    (put_on s 0 (bytes_of 2 report_mark) (bytes_of 2 x.unit) refl)))))))))
-
-pub part_put : (s : List ℕ) (at start end power : ℕ) → power < 4294967296
-    → put (put (put (put (put s at (bytes_of 2 part_mark)) (at + 2) (bytes_of 2 0)) (at + 4) (bytes_of 4 start)) (at + 8) (bytes_of 4 end))
-    (at + 12) (bytes_of 4 power)
-    ≡ put s at (encode_parts (part_sent start end power ∷ []))
+pub one_put : (s : List ℕ) (x : Sent)
+    → put s 48 (encode_part (part_sent x.start x.end x.power)) ≡ put s 48 (encode_parts (levels_sent x None))
 unfolding bytes_of encode_parts
-part_put s at start end power fits =
-    rw (of_z-to_z w32 power (record { fits = fits }))
-    (put_on s at _ (bytes_of 4 power)
-    (put_on s at _ (bytes_of 4 end)
-    (put_on s at _ (bytes_of 4 start) (put_on s at (bytes_of 2 part_mark) (bytes_of 2 0) refl))))
+one_put s x = refl
 
-pub levels_put : (s : List ℕ) (x : Sent) (step : Step)
-    → put (put s 48 (encode_parts (part_sent x.start step.at x.power ∷ []))) 64 (encode_parts (part_sent step.at x.end step.power ∷ []))
+pub two_put : (s : List ℕ) (x : Sent) (step : Step)
+    → put (put s 48 (encode_part (part_sent x.start step.at x.power))) 64 (encode_part (part_sent step.at x.end step.power))
     ≡ put s 48 (encode_parts (levels_sent x (Some step)))
 unfolding bytes_of encode_parts
-levels_put s x step = put_on s 48 (encode_parts (part_sent x.start step.at x.power ∷ [])) _ refl
+two_put s x step = put_on s 48 (encode_part (part_sent x.start step.at x.power)) _ refl
 
 module _ (s : List ℕ) (x : Sent) where
   pub whole_put : (b : Bool) (step : Option Step)

@@ -4,15 +4,15 @@
 ghost use Rattle.std.specs.Prelude.{◌≡◌, ◌+◌, ◌≤◌, [], ◌∷◌, ◌++◌, length, take};
 ghost use Rattle.fields.specs.Fields.{bytes_of};
 ghost use Rattle.fields.specs.Lists.{pick, put};
-ghost use Rattle.report.specs.Encoded.{encode_head, encode_parts};
+ghost use Rattle.report.specs.Encoded.{encode_head, encode_part, encode_parts};
 ghost use Rattle.rules.specs.Samples.{powers_of, entry_for, entry_bytes};
 ghost use Rattle.rules.specs.Codes.{is_levelled, executed};
 ghost use Rattle.rules.specs.Cases.{roster_a};
 ghost use Rattle.rules.specs.Desk.{set_up, new_register};
 ghost use Rattle.sent_reports.specs.Sent.{sent_as, derating_over, derating_sent, forced_sent, stop_sent, event_sent, parts_sent, length_sent, part_sent, levels_sent, head_sent, report_sent};
 
-use quantities::{Kilowatt, Minute};
-use report::{Direction, Mark, Operation, RecordType};
+use quantities::{Kilowatt, Minute, Period, SignedKilowatt};
+use report::{Direction, Head, Mark, Operation, Part, RecordType};
 use rules::{Kind, PowerRange, Powers, RosterEntry, Row, State};
 
 // "D is 13,760,640, which is 2026-03-01 00:00."
@@ -137,43 +137,54 @@ pub fn length_of(s: Sent) -> usize
     report::text_after(part_count(s))
 }
 
+// A creation with direction 1 and ordinal 1; the identifier's bytes are all the place.
+fn head_of(s: Sent) -> Head
+    ensures { result ≡ head_sent s }
+{
+    Head {
+        unit: s.unit,
+        owner: s.owner,
+        record_type: s.record_type,
+        operation: Operation::CREATE,
+        direction: Direction::GENERATION,
+        start_mark: s.start_mark,
+        end_mark: Mark::PLANNED,
+        qualification: s.qualification,
+        ordinal: 1,
+        part_count: part_count(s),
+        identifier: [s.place; 16],
+        stamp: Minute(s.stamp),
+        period: period(s.start, s.end),
+        text_length: 0,
+    }
+}
+
+fn period(start: u32, end: u32) -> Period
+    ensures { result ≡ record { start = record { 0 = start }; end = record { 0 = end } } }
+{
+    Period {
+        start: Minute(start),
+        end: Minute(end),
+    }
+}
+
 fn put_head(report: &mut [u8], s: Sent)
     ensures { report.new ≡ put report.old 0 (encode_head (head_sent s)) }
 {
-    fields::put_u16(report, 0, 0x5052);
-    fields::put_u16(report, 2, s.unit);
-    fields::put_u16(report, 4, s.owner);
-    let codes = [
-        s.record_type.0,
-        Operation::CREATE.0,
-        Direction::GENERATION.0,
-        s.start_mark.0,
-        Mark::PLANNED.0,
-        s.qualification,
-    ];
-    fields::put_bytes(report, 6, &codes);
-    fields::put_u16(report, 12, 1);
-    fields::put_u16(report, 14, part_count(s));
-    fields::put_bytes(report, 16, &[s.place; 16]);
-    fields::put_u32(report, 32, s.stamp);
-    fields::put_u32(report, 36, s.start);
-    fields::put_u32(report, 40, s.end);
-    fields::put_u32(report, 44, 0);
+    fields::put_bytes(report, 0, &encoder::head_bytes(head_of(s)));
 }
 
-#[tactic(auto, using(crate::proofs::Reports::part_put))]
 fn put_part(report: &mut [u8], at: usize, start: u32, end: u32, power: u32)
-    requires { at ≤ 64 }
-    ensures { report.new ≡ put report.old at (encode_parts (part_sent start end power ∷ [])) }
+    ensures { report.new ≡ put report.old at (encode_part (part_sent start end power)) }
 {
-    fields::put_u16(report, at, 0x4B50);
-    fields::put_u16(report, at + 2, 0);
-    fields::put_u32(report, at + 4, start);
-    fields::put_u32(report, at + 8, end);
-    fields::put_u32(report, at + 12, power);
+    let part = Part {
+        period: period(start, end),
+        power: SignedKilowatt(power.cast_signed()),
+    };
+    fields::put_bytes(report, at, &encoder::part_bytes(part));
 }
 
-#[tactic(auto, using(crate::proofs::Reports::levels_put))]
+#[tactic(auto, using(crate::proofs::Reports::one_put, crate::proofs::Reports::two_put))]
 fn put_levels(report: &mut [u8], s: Sent)
     ensures { report.new ≡ put report.old 48 (encode_parts (levels_sent s s.step)) }
 {

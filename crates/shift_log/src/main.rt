@@ -6,6 +6,7 @@ ghost use Rattle.std.specs.Prelude.{◌+◌, ◌*◌, ◌≤◌, length, IfOk};
 
 use block::{BLOCK_SIZE, ENTRY_SIZE};
 use log_lines::{Lines, Plain, WithRemarks};
+use report_input::LONGEST;
 use setup::SetUpError;
 use std::env::{Env, FillError};
 use std::io::{Eprint, Print, Read};
@@ -51,7 +52,7 @@ fn log_input<L: Lines, R: Print + Eprint + Alloc, I: Read>(
     if let Err(error) = setup::set_up(&input[..end], &mut register[..size]) {
         return print_fault(rt, error);
     }
-    let mut report = [0u8; 1850];
+    let mut report = [0u8; LONGEST];
     let ahead = start.ahead;
     report[..ahead].copy_from_slice(&input[end..end + ahead]);
     log_reports::<L, _, _>(rt, reader, &mut register[..size], &mut report, ahead)
@@ -104,22 +105,17 @@ fn read_roster<R: Eprint + Alloc, I: Read>(
     })
 }
 
-// Reads a report of which some bytes are there: its head, and as much as that states.
+// A report of which some bytes are there, in this program's words.
 fn read_report<R: Eprint + Alloc, I: Read>(
     rt: &R,
     reader: &mut I,
-    report: &mut [u8; 1850],
+    report: &mut [u8; LONGEST],
     ahead: usize,
 ) -> Result<usize, Said>
-    requires { ahead ≤ 48 }
     ensures { IfOk result (λ got. got ≤ 1850) }
 {
-    let got = ahead + read(rt, reader, &mut report[ahead..48])?;
-    if got < 48 {
-        return Ok(got);
-    }
-    let end = log_lines::stated_length(report);
-    Ok(48 + read(rt, reader, &mut report[48..end])?)
+    let done = report_input::read_report(reader, report, ahead);
+    streams::or_said(rt, "shift_log: standard input can't be read", done)
 }
 
 // Nothing is written after a failure. A proved loop has to end: it has more turns than any input needs.
@@ -127,7 +123,7 @@ fn log_reports<L: Lines, R: Print + Eprint + Alloc, I: Read>(
     rt: &R,
     reader: &mut I,
     register: &mut [u8],
-    report: &mut [u8; 1850],
+    report: &mut [u8; LONGEST],
     ahead: usize,
 ) -> Result<(), Said>
     requires { ahead ≤ 48 }

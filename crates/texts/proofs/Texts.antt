@@ -50,7 +50,7 @@ same_text e h p = rw (← e) record {
 
 -- a whole text, from the start of the buffer
 pub all_put : {n : ℕ} {a b : Text} {x here there : List ℕ} (m : ℕ) → a.bytes.now ≡ here → a.end ≡ 0 → Writes m a x b
-    → there ≡ b.bytes.now → m ≤ n → m ≤ 1024 → Puts n here x there b.end
+    → there ≡ b.bytes.now → m ≤ n → m ≤ last_place → Puts n here x there b.end
 all_put {x = x} m at-first from-start p ends h less = record {
   upper_bound = rw (p.end, from-start) (omega (arith, p.upper_bound, h));
   value = p.end ∙ rw from-start (omega (arith, p.upper_bound, less));
@@ -104,17 +104,8 @@ decimal-more n l h =
     step : decimal n ≡ decimal_before 19 (n / 10) (digit n ∷ [])
     step = rw (le-ltb n 10 l)
 
-pub one-digit : {a b : Text} {n v : ℕ} → n < 10 → v ≡ digit n → Writes 1 a (v ∷ []) b → Writes 20 a (decimal n) b
-one-digit {n = n} l e p = same_text (rw (e, decimal-one n l)) (omega arith) p
+pub one_digit : (n v : ℕ) → n < 10 → v ≡ digit n → v ∷ [] ≡ decimal n
+one_digit n v l e = rw (e, decimal-one n l)
 
-pub digit-more : {a b d : Text} {n v : ℕ} → 10 ≤ n → n ≤ last_place → v ≡ digit n → Writes 20 a (decimal (n / 10)) b
-    → Writes 1 b (v ∷ []) d → Writes 20 a (decimal n) d
-digit-more {a = a} {d = d} {n = n} l h e p q =
-    let all : Writes 21 a (decimal n) d = rw (decimal-more n l h, ← e) (then p q) in
-    record {
-      same_reference = all.same_reference;
-      end = all.end;
-      bytes = all.bytes;
-      upper_bound = decimal-length 20 n [];
-      in_reach = all.in_reach;
-    }
+pub all_digits : {a b : Text} (n : ℕ) {x : List ℕ} → x ≡ decimal n → Writes (length x) a x b → Writes 20 a (decimal n) b
+all_digits n e p = same_text e (rw e (decimal-length 20 n [])) p

@@ -1,7 +1,7 @@
 // Texts that are put piece by piece into lent bytes, and numbers as ASCII. What the bytes have no room for is left out, and still counts.
 #![tactic(auto)]
 
-ghost use Rattle.std.specs.Prelude.{◌≡◌, [], ◌∷◌, ◌/◌, ◌%◌, ◌<◌, length};
+ghost use Rattle.std.specs.Prelude.{◌≡◌, [], ◌∷◌, ◌/◌, ◌%◌, ◌<◌, ◌≤◌, length, drop};
 ghost use Rattle.calendar.specs.Calendar.{digit as digit_of};
 ghost use Rattle.texts.specs.Texts.{Writes};
 ghost use Rattle.texts.specs.Numerals.{decimal, hex_digit};
@@ -20,7 +20,26 @@ pub fn digit(n: u64) -> u8
     (48 + n % 10) as u8
 }
 
-// By hand, as `put_decimal` and for its reason. Of a number above 15 it is that letter's successor further on, as far as a byte goes.
+// A number's digits, laid from the back; the place of the first. By hand: `write!` promises its text only where it answers Ok, and the kit's
+// `itoa` would be one more crate to trust.
+#[tactic(auto, using(crate::proofs::Laid::laid_none, crate::proofs::Laid::laid_all))]
+fn lay_digits(digits: &mut [u8; 20], n: u64) -> usize
+    ensures in_range { result ≤ 20 }
+    ensures value { drop result digits.new ≡ decimal n }
+{
+    let mut rest = n;
+    let mut at = 20;
+    while rest >= 10 {
+        at -= 1;
+        digits[at] = digit(rest);
+        rest /= 10;
+    }
+    at -= 1;
+    digits[at] = digit(rest);
+    at
+}
+
+// By hand, as `lay_digits` and for its reason. Of a number above 15 it is that letter's successor further on, as far as a byte goes.
 #[tactic(auto, unfolding(fields::specs::Lists::pick))]
 fn hex_digit(n: u8) -> u8
     requires { n < 16 }
@@ -58,14 +77,17 @@ impl<'a> Text<'a> {
         self.end = self.end.saturating_add(word.len());
     }
 
-    // By hand: `write!` promises its text only where it answers Ok, and the kit's `itoa` would be one more crate to trust.
+    #[tactic(auto, using(crate::proofs::Texts::one_digit, crate::proofs::Texts::all_digits))]
     pub fn put_decimal(&mut self, n: u64)
         ensures { Writes 20 self.old (decimal n) self.new }
     {
-        if n >= 10 {
-            self.put_decimal(n / 10);
+        if n < 10 {
+            self.put(&[digit(n)]);
+        } else {
+            let mut digits = [0u8; 20];
+            let first = lay_digits(&mut digits, n);
+            self.put(&digits[first..]);
         }
-        self.put(&[digit(n)]);
     }
 
     // A byte as two digits, the high half first.

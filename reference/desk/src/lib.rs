@@ -27,6 +27,9 @@ extern "C" {
     ) -> u32;
     fn desk_read_date(text: *const u8, text_length: usize) -> u64;
     fn desk_print_date(minute: u32, text: *mut u8, text_length: usize) -> u32;
+    fn desk_write_form(report: *const u8, report_len: usize, form: *mut u8, form_len: usize)
+        -> u64;
+    fn desk_read_form(form: *const u8, form_len: usize, report: *mut u8, report_len: usize) -> u64;
 }
 
 /// Set-up: 0, 20 or 21.
@@ -104,7 +107,7 @@ pub fn remark(report: &[u8], standing: &[u8]) -> Remark {
     }
 }
 
-// Dates take a few nanoseconds, so both sides are wrapped alike: each is a call of the library or of the reference.
+// Dates and forms take little time, so both sides are wrapped alike: each is a call of the library or of the reference.
 
 /// Number, 0 or 23, and minute of a text.
 #[inline]
@@ -134,4 +137,44 @@ pub fn print_date(minute: u32, text: &mut [u8]) -> u32 {
 #[inline]
 pub fn reference_print_date(minute: u32, text: &mut [u8]) -> u32 {
     reference::print_date(minute, text).map_or_else(u32::from, |()| 0)
+}
+
+/// Number and length.
+pub type Written = (u32, u32);
+
+/// Writes the form of a report into the first bytes of a form: 0, 25 or 43, and its length.
+#[inline]
+pub fn write_form(report: &[u8], form: &mut [u8]) -> Written {
+    // SAFETY: both are whole Rust slices and don't overlap; any bytes and lengths are allowed.
+    let packed =
+        unsafe { desk_write_form(report.as_ptr(), report.len(), form.as_mut_ptr(), form.len()) };
+    (packed as u32, (packed >> 32) as u32)
+}
+
+/// Writes the report of a form into the first bytes of a report: 0, 24 or 43, and its length.
+#[inline]
+pub fn read_form(form: &[u8], report: &mut [u8]) -> Written {
+    // SAFETY: as for writing.
+    let packed =
+        unsafe { desk_read_form(form.as_ptr(), form.len(), report.as_mut_ptr(), report.len()) };
+    (packed as u32, (packed >> 32) as u32)
+}
+
+fn written(length: Result<usize, u8>) -> Written {
+    match length {
+        Ok(length) => (0, length as u32),
+        Err(number) => (number.into(), 0),
+    }
+}
+
+/// The form of a report by the reference.
+#[inline]
+pub fn reference_write_form(report: &[u8], form: &mut [u8]) -> Written {
+    written(reference::write_form(report, form))
+}
+
+/// The report of a form by the reference.
+#[inline]
+pub fn reference_read_form(form: &[u8], report: &mut [u8]) -> Written {
+    written(reference::read_form(form, report))
 }

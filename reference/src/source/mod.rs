@@ -4,6 +4,7 @@
 //! deep questions are reached.
 
 mod drafts;
+mod forms;
 mod registers;
 mod rosters;
 mod spoilers;
@@ -19,6 +20,7 @@ use crate::roster::ENTRY_SIZE;
 use crate::setup::set_up;
 use drafts::Draft;
 
+pub use forms::{damaged_forms, regridded_forms, report_with_form, report_without_form};
 pub use registers::{damaged_register, whole_register};
 pub use rosters::{damaged_roster, roster};
 pub use spoilers::broken_report;

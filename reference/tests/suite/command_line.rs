@@ -1,6 +1,8 @@
 //! The command line.
 
+use reference::forms::form_of;
 use reference::sample::{sample, samples};
+use reference::shift_log::reports;
 use reference::worked_examples::ROSTER_A_LOG;
 use reference::{remarks, shift_log};
 use std::io::Write;
@@ -86,6 +88,28 @@ fn lines_of_a_register_and_of_a_stream() {
 }
 
 #[test]
+fn forms_of_a_stream_and_back() {
+    let stream = sample("evening").unwrap();
+    let mut forms = Vec::new();
+    for (report, place) in reports(&stream).into_iter().zip(1..) {
+        // Report 11 has a minute between its parts, 16 and 18 have a field out of range.
+        if [11, 16, 18].contains(&place) {
+            assert_eq!(form_of(report), Err(25));
+            continue;
+        }
+        let form = output(&["form", &place.to_string()], &stream);
+        assert_eq!(form_of(report).as_ref(), Ok(&form));
+        assert_eq!(output(&["report"], &form), report);
+        forms.push(form);
+    }
+    assert_eq!(output(&["forms"], &stream), forms.join(&b'\n'));
+    assert_eq!(output(&["forms"], &sample("roster-a").unwrap()), b"");
+    for place in ["11", "31"] {
+        assert!(!run(&["form", place], &stream).status.success());
+    }
+}
+
+#[test]
 fn bad_arguments_get_one_line_and_a_failure() {
     for arguments in [
         &[][..],
@@ -102,6 +126,14 @@ fn bad_arguments_get_one_line_and_a_failure() {
         &["random", "18446744073709551616", "2"],
         &["random", "1", "2", "3"],
         &["show", "more"],
+        &["forms", "more"],
+        &["form"],
+        &["form", "0"],
+        &["form", "one"],
+        &["form", "1"],
+        &["form", "1", "more"],
+        &["report"],
+        &["report", "more"],
     ] {
         let output = run(arguments, &[]);
         assert!(!output.status.success(), "{arguments:?}");

@@ -6,6 +6,7 @@ mod compare_logs;
 mod cover;
 mod coverage;
 mod early_end;
+mod forms;
 mod given_registers;
 mod minutes;
 mod question_1;

@@ -5,12 +5,22 @@ use reference::register::{question_1_register_whole, BLOCK_SIZE};
 use reference::report::question_2_report_whole;
 use reference::show::show;
 use reference::source::{damaged_register, whole_register, Source};
-use reference::{answer, date, print_date, read_date, remark, set_up, shift_log};
+use reference::write_form;
+use reference::{answer, date, print_date, read_date, read_form, remark, set_up, shift_log};
 
 fn noise(random: &mut Random, most: u32) -> Vec<u8> {
     let length = random.below(most);
     let mut bytes = vec![0; length as usize];
     random.fill(&mut bytes);
+    bytes
+}
+
+/// The characters of forms in any order.
+fn form_noise(random: &mut Random) -> Vec<u8> {
+    let mut bytes = noise(random, 300);
+    for byte in &mut bytes {
+        *byte = b"unit=1\nowner=7 -point0258"[usize::from(*byte) % 25];
+    }
     bytes
 }
 
@@ -54,6 +64,9 @@ fn noise_everywhere() {
         let minute = random.bits() as u32;
         let _ = (date(minute), print_date(minute, &mut register));
         assert_eq!(read_date(&report), Err(23));
+        assert_eq!(read_form(&report, &mut register), Err(24));
+        assert_eq!(write_form(&report, &mut register), Err(25));
+        assert_eq!(read_form(&form_noise(&mut random), &mut register), Err(24));
     }
 }
 

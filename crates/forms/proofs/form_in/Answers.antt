@@ -1,4 +1,4 @@
-use Rattle.std.proofs.Common.{ap, Ok, arith}
+use Rattle.std.proofs.Common.{ap, Ok, arith, rules}
 use Rattle.fields.specs.Lists.{pick}
 use Rattle.forms.proofs.Putting.{all-lent}
 use Rattle.forms.specs.Lent.{form_written}
@@ -6,8 +6,10 @@ use Rattle.forms.proofs.form_in.Goals as goal
 
 pub returns-then-not-has_form : goal.returns-then-not-has_form
 unfolding form_written pick
-returns-then-not-has_form c = rw (← c.has_form.ensures, c.if-not-has_form.true)
+returns-then-not-has_form c = record { value = rw (← c.has_form.ensures, c.if-not-has_form.true); bound = search rules }
 
 pub returns : goal.returns
 unfolding form_written pick
-returns c = rw (← c.has_form.ensures, c.if-not-has_form.false) (ap Ok (all-lent c.put_form-start.result c.put_form-start.new.bytes (omega arith) c.put_form-start.ensures.form))
+returns c =
+    let there = all-lent c.put_form-start.result c.put_form-start.new.bytes (omega arith) c.put_form-start.ensures.form in
+    record { value = rw (← c.has_form.ensures, c.if-not-has_form.false) (ap Ok there); bound = search rules }

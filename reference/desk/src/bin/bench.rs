@@ -1,10 +1,12 @@
 //! Times the proved desk beside the reference, in one process and on the same inputs.
 
 use desk_comparison::{reference_answer, reference_print_date, reference_read_date, Answer};
+use desk_comparison::{reference_read_form, reference_write_form, Written};
 use reference::calendar::{DATE_SIZE, NO_PRINT};
 use reference::codes::{Direction, Mark, Operation, RecordType, UnitKind};
 use reference::compose::{EntryFields, ReportFields, SlotFields};
 use reference::fields::put_u16;
+use reference::forms::NO_SUCH_FORM;
 use reference::quantities::{Minute, LAST_MINUTE, QUARTER};
 use reference::random::Random;
 use reference::record::MAX_PARTS;
@@ -509,6 +511,113 @@ fn print_dates() -> Option<()> {
     print_printing("(i) dates printed", &minutes)
 }
 
+/// From the bytes of a report to those of its form, or back.
+type Convert = fn(&[u8], &mut [u8]) -> Written;
+
+const WRITE_FORM: [Convert; 2] = [desk_comparison::write_form, reference_write_form];
+const READ_FORM: [Convert; 2] = [desk_comparison::read_form, reference_read_form];
+
+/// More than the longest form and the longest report.
+const LONGEST: usize = 4_000;
+
+fn converted(convert: Convert, input: &[u8]) -> (u32, Vec<u8>) {
+    let mut output = vec![0; LONGEST];
+    let (number, length) = convert(input, &mut output);
+    output.truncate(length as usize);
+    (number, output)
+}
+
+/// Deratings of so many quarter hours, or stops where there is no part, each with other numbers.
+fn reports_with_forms(parts: u32) -> Vec<Vec<u8>> {
+    const REPORTS: usize = 200;
+    let mut random = Random::new(parts.into());
+    let mut report = || {
+        let start = QUARTER * random.between(0..=1_000_000);
+        let record_type = match parts {
+            0 => RecordType::Outage,
+            _ => RecordType::PositiveDerating,
+        };
+        let steps: Vec<(u32, i32)> = (1..=parts)
+            .map(|part| {
+                let power = random.between(1_000..=199_999) as i32;
+                (start + QUARTER * part, power)
+            })
+            .collect();
+        let mut fields = ReportFields::creation(random.between(1..=64) as u16, OWNER, record_type)
+            .over(start, start + QUARTER * parts.max(4))
+            .stepping(&steps)
+            .stamped(start);
+        fields.qualification = u8::from(parts == 0);
+        random.fill(&mut fields.mrid);
+        fields.text = b"feed pump B still out".to_vec();
+        fields.bytes()
+    };
+    (0..REPORTS).map(|_| report()).collect()
+}
+
+/// The same forms, each with one character changed so that it is none.
+fn spoiled_forms(forms: &[Vec<u8>]) -> Vec<Vec<u8>> {
+    let mut random = Random::new(2);
+    let mut spoil = |form: &Vec<u8>| {
+        let mut form = form.clone();
+        let at = random.below(form.len() as u32) as usize;
+        form[at] = b'\n' ^ u8::from(form[at] == b'\n');
+        form
+    };
+    forms.iter().map(&mut spoil).collect()
+}
+
+/// Forms a second of both sides; None if they differ or give another number.
+fn print_forms(
+    name: &str,
+    inputs: &[Vec<u8>],
+    sides: [Convert; 2],
+    expected: u8,
+) -> Option<Vec<Vec<u8>>> {
+    let [rattle, rust] = sides.map(|side| {
+        let outputs = inputs.iter().map(|input| converted(side, input));
+        outputs.collect::<Vec<_>>()
+    });
+    let right = |(number, _): &(u32, Vec<u8>)| *number == u32::from(expected);
+    if rattle != rust || !rattle.iter().all(right) {
+        println!("{name:<44} wrong answers");
+        return None;
+    }
+    let mut output = vec![0; LONGEST];
+    let seconds = fastest::<2>(|side| {
+        let convert = sides[side];
+        timed(|| {
+            for input in inputs {
+                black_box(convert(black_box(input), black_box(&mut output)));
+            }
+        })
+    });
+    let [rattle_rate, rust_rate] = seconds.map(|all| inputs.len() as f64 / all);
+    let ratio = rattle_rate / rust_rate;
+    println!("{name:<44} {rattle_rate:>12.0} {rust_rate:>12.0} {ratio:>12.2}");
+    Some(rattle.into_iter().map(|(_, output)| output).collect())
+}
+
+fn print_all_forms() -> Option<()> {
+    for (row, parts, what) in [
+        ("(j)", 0, "without parts"),
+        ("(k)", 10, "of 10 parts"),
+        ("(l)", MOST_PARTS, "of 100 parts"),
+    ] {
+        let reports = reports_with_forms(parts);
+        let name = |done: &str| format!("{row} report {what}, form {done}");
+        let forms = print_forms(&name("written"), &reports, WRITE_FORM, 0)?;
+        print_forms(&name("read"), &forms, READ_FORM, 0)?;
+        print_forms(
+            &name("refused"),
+            &spoiled_forms(&forms),
+            READ_FORM,
+            NO_SUCH_FORM,
+        )?;
+    }
+    Some(())
+}
+
 fn bench() -> Option<()> {
     print_head("reports per second");
     print_rates("(a) 2 units, ordinary stream", &stream(2), None)?;
@@ -531,7 +640,9 @@ fn bench() -> Option<()> {
     print_uncovered()?;
     print_early_ends()?;
     print_head("ns a date");
-    print_dates()
+    print_dates()?;
+    print_head("forms per second");
+    print_all_forms()
 }
 
 fn main() -> ExitCode {

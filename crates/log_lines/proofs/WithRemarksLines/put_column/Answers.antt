@@ -2,7 +2,7 @@ use Rattle.std.proofs.Common.{arith, ap, length, ◌++◌}
 use Rattle.fields.specs.Ascii.{ascii}
 use Rattle.report.proofs.Remarks.{remark-short}
 use Rattle.log_lines.specs.Remarks.{shown, standing_remark}
-use Rattle.log_lines.proofs.Texts.{same_text}
+use Rattle.texts.proofs.Texts.{same_text}
 use Rattle.log_lines.proofs.WithRemarksLines.put_column.Goals as goal
 
 pub returns-in-Ok : goal.returns-in-Ok

@@ -1,9 +1,11 @@
-//! Compares the proved desk with the reference: numbers, warnings, parts, dates and every byte.
+//! Compares the proved desk with the reference: numbers, warnings, parts, dates, forms and every byte.
 
 mod case;
 mod damaged;
 mod date_kinds;
 mod dates;
+mod form_kinds;
+mod forms;
 mod remarks;
 mod stages;
 mod tally;
@@ -20,17 +22,26 @@ const DEFAULT_SEED: u64 = 20_260_301;
 
 fn main() -> ExitCode {
     let Some(seed) = seed() else {
-        eprintln!("usage: compare [seed]");
+        eprintln!("usage: compare [seed [part of a stage's name]]");
         return ExitCode::from(2);
     };
     println!("seed {seed}");
+    let asked = std::env::args().nth(2);
     let mut tally = Tally::default();
-    let mut passed = 0;
+    let (mut passed, mut failed) = (0, 0);
+    let mut count = |right: bool| *if right { &mut passed } else { &mut failed } += 1;
     for (stage, number) in STAGES.iter().zip(1..) {
-        passed += u32::from(run(stage, number, seed, &mut tally));
+        if asked
+            .as_ref()
+            .is_none_or(|asked| stage.name.contains(asked))
+        {
+            count(run(stage, number, seed, &mut tally));
+        }
     }
-    passed += u32::from(all_occurred(&tally));
-    finish(passed, STAGES.len() as u32 + 1 - passed)
+    if asked.is_none() {
+        count(all_occurred(&tally));
+    }
+    finish(passed, failed)
 }
 
 fn seed() -> Option<u64> {

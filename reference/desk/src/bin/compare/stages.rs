@@ -3,6 +3,7 @@
 use crate::case::{answer, set_up, Difference};
 use crate::damaged;
 use crate::dates;
+use crate::forms;
 use crate::remarks::{compare, random_standing, with_random_text, with_text};
 use crate::tally::Tally;
 use reference::damage::{base, variants};
@@ -27,7 +28,7 @@ pub struct Stage {
 }
 
 /// All stages.
-pub const STAGES: [Stage; 11] = [
+pub const STAGES: [Stage; 16] = [
     Stage {
         name: "worked examples",
         run: worked_examples,
@@ -71,6 +72,26 @@ pub const STAGES: [Stage; 11] = [
     Stage {
         name: "dates typed back in",
         run: dates::typed,
+    },
+    Stage {
+        name: "reports written as forms",
+        run: forms::written,
+    },
+    Stage {
+        name: "forms of streams",
+        run: forms::of_streams,
+    },
+    Stage {
+        name: "texts in forms",
+        run: forms::texts,
+    },
+    Stage {
+        name: "forms damaged in every place",
+        run: forms::damaged_once,
+    },
+    Stage {
+        name: "forms cut and changed",
+        run: forms::cut_and_changed,
     },
 ];
 

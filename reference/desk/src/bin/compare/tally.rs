@@ -1,9 +1,10 @@
-//! How often each answer, warning, way to break cover, kind of early end and kind of date occurred.
+//! How often each answer, warning, way to break cover, kind of early end, of date and of form occurred.
 
 use crate::date_kinds;
 use desk_comparison::Answer;
 use reference::cover_faults::{cover_fault, KINDS};
 use reference::early_ends::{self, early_end_kinds};
+use reference::form_faults;
 use reference::report::question_2_report_whole;
 use std::collections::BTreeMap;
 
@@ -21,6 +22,7 @@ pub struct Tally {
     refused_buffers: u64,
     remarks: BTreeMap<&'static str, u64>,
     dates: BTreeMap<&'static str, u64>,
+    forms: BTreeMap<&'static str, u64>,
 }
 
 impl Tally {
@@ -67,6 +69,24 @@ impl Tally {
         *self.dates.entry(kind).or_default() += dates;
     }
 
+    /// Counts the kinds of report, form and room that a call was of.
+    pub fn count_forms<const KINDS: usize>(&mut self, kinds: [(&'static str, bool); KINDS]) {
+        for (kind, occurred) in kinds {
+            *self.forms.entry(kind).or_default() += u64::from(occurred);
+        }
+    }
+
+    /// Kinds of reasons that never came are rows as well.
+    fn form_rows(&self) -> impl Iterator<Item = (String, u64)> {
+        let mut forms = self.forms.clone();
+        for kind in form_faults::kinds() {
+            forms.entry(kind).or_default();
+        }
+        forms
+            .into_iter()
+            .map(|(kind, count)| (kind.to_string(), count))
+    }
+
     fn warning(&self, warning: u32) -> u64 {
         let sums = self.sums.iter().zip(0..);
         sums.filter(|(_, sum)| sum & warning != 0)
@@ -104,6 +124,7 @@ impl Tally {
             .chain(set_ups)
             .chain(remarks)
             .chain(dates)
+            .chain(self.form_rows())
             .collect()
     }
 

@@ -1,0 +1,14 @@
+pub mod Values
+pub mod Heads
+pub mod Bytes
+pub mod Covered
+pub mod PointLines
+pub mod Encoding
+pub mod Reports
+pub mod Scanned
+pub mod Counted
+pub mod PartsPut
+pub mod FormRead
+pub mod ReadBytes
+pub mod LinesBack
+pub mod Round

@@ -1,8 +1,0 @@
-use Rattle.std.proofs.Common.{◌+◌, ◌*◌, ◌++◌, take}
-use Rattle.fields.specs.Ascii.{ascii}
-use Rattle.log_lines.specs.Texts.{Writes}
-use Rattle.log_lines.specs.Remarks.{shown}
-use Rattle.log_lines.proofs.Text.put_shown.Given as goal
-
-abbrev pub invariant-loop-b : goal.invariant-loop-b
-invariant-loop-b l = Writes (3 + 4 * l.b-index) l.fn.self (ascii " | " ++ shown (take l.b-index l.remark)) l.self
