@@ -235,7 +235,7 @@ unreadable_file() {
 page_for_the_shift() {
   local page=docs/SHIFT-LOG.md number
   told "$page has another log" cmp -s samples/roster-a.log <(sed '1,/^```$/d;/^```$/,$d' "$page")
-  for number in {1..23} 43; do
+  for number in {1..25} 43; do
     told "$page lacks answer $number" grep -q "^| $number |" <(sed -n '/^## Refusals/,/^## Warnings/p' "$page")
   done
   for number in 1 2 4 8; do
