@@ -1,40 +1,32 @@
--- What a report that has a form is known to have; its text; its form where it lies. Assumes nothing.
+-- What a report that has a form is known to have; its text; how its questions are asked. Assumes nothing.
 use Prim.Native.Nat.{ℕ, ◌+◌, ◌-◌, ◌≤◌}
-use mathlib.Core.Path.{◌≡◌, ◌∙◌}
-use mathlib.Core.Bool.{Bool, true, ◌&&◌}
-use mathlib.Core.List.{List}
+use mathlib.Core.Path.{◌≡◌, ◌∙◌, refl, sym}
+use mathlib.Core.Bool.{Bool, true, ◌&&◌, false, and-false}
+use mathlib.Core.List.{List, [], ◌∷◌}
 use native.Mathlib.Omega.{arith}
 use lib.ListN.{length, length-take, take, drop}
 use lib.Seq.{take-length}
-use Rattle.fields.specs.Lists.{every, and_each, all, series}
-use Rattle.fields.specs.Fields.{u8_at}
-use Rattle.fields.proofs.Bools.{every_true}
-use Rattle.fields.proofs.Slices.{part-lent}
-use Rattle.fields.proofs.Rests.{series-taken}
-use Rattle.quantities.specs.Quantities.{is_time}
-use Rattle.report.specs.Report.{head_of, parts_of, text_length_of, whole}
-use Rattle.report.specs.Remark.{text_start}
-use Rattle.report.proofs.Sizes.{Sized, whole-sized}
-use Rattle.rules.specs.Records.{fields_in_range}
-use Rattle.rules.specs.Questions.{record_by, question4, question8}
-use Rattle.report.specs.declared.Head.{Head}
-use Rattle.rules.specs.Codes.{between}
-use Rattle.std.specs.Prelude.{is_ok}
-use mathlib.Core.Path.{refl, sym}
-use mathlib.Core.Bool.{false, and-false}
-use mathlib.Core.List.{[], ◌∷◌}
 use lib.Dec.{leb, ltb, eqb}
 use borrow.Author.Tests.{leb-true, ltb-true, eqb-true, le-leb}
-use Rattle.std.specs.Prelude.{Result}
-use Rattle.fields.proofs.Bools.{and_left, and_right, and_both, pick-elim}
-use Rattle.quantities.specs.Quantities.{last_minute}
+use Rattle.std.specs.Prelude.{is_ok, Result}
+use Rattle.fields.specs.Lists.{every, and_each, all, series}
+use Rattle.fields.specs.Fields.{u8_at}
+use Rattle.fields.proofs.Bools.{every_true, and_left, and_right, and_both, pick-elim}
+use Rattle.fields.proofs.Slices.{part-lent}
+use Rattle.fields.proofs.Rests.{series-taken}
+use Rattle.quantities.specs.Quantities.{is_time, last_minute}
 use Rattle.quantities.specs.declared.Period.{Period}
+use Rattle.report.specs.Report.{head_of, parts_of, text_length_of, whole, most_parts}
+use Rattle.report.specs.Remark.{text_start}
+use Rattle.report.proofs.Sizes.{Sized, whole-sized}
+use Rattle.report.specs.declared.Head.{Head}
 use Rattle.report.specs.declared.Part.{Part}
 use Rattle.report.specs.declared.Broken.{Broken}
-use Rattle.report.specs.Report.{most_parts}
 use Rattle.report.specs.Cover.{fits, rest, covers, no_parts}
 use Rattle.report.proofs.Covering.{first_fits, rest-covers, covered-is, cover-verdict}
-use Rattle.rules.specs.Records.{part_times, cover_by}
+use Rattle.rules.specs.Records.{fields_in_range, part_times, cover_by}
+use Rattle.rules.specs.Questions.{record_by, question4, question8}
+use Rattle.rules.specs.Codes.{between}
 use Rattle.validation.proofs.InOrder.{fields_at}
 use Rattle.forms.specs.Form.{text_of, printable, has_form}
 
