@@ -1,5 +1,8 @@
 -- The parts of a form as a loop puts them, and the report around them. Assumes nothing.
-use Rattle.std.proofs.Common.{◌≡◌, ℕ, ◌+◌, ◌*◌, ◌≤◌, ◌<◌, ◌&&◌, Bool, List, [], ◌∷◌, ◌++◌, refl, sym, ap, ◌∙◌, arith, true, length, length-append, append_assoc, zero-add, length-take, take, drop}
+use Rattle.std.proofs.Common.{◌≡◌, ℕ, ◌+◌, ◌*◌, ◌≤◌, ◌<◌, ◌&&◌, Bool, List, [], ◌∷◌, ◌++◌, refl, sym, ap, ◌∙◌, arith, true, ◌/◌, ◌%◌, length, length-append, append_assoc, zero-add, length-take, take, drop}
+use mir.Syntax.{w32}
+use mir.Val.{of_z}
+use native.Mathlib.Nat.{div-div-eq-div-mul}
 use lib.Seq.{sets-eq, take_at, drop_at}
 use Rattle.fields.specs.Lists.{pick, part, put, series}
 use Rattle.fields.specs.Fields.{bytes_of}
@@ -25,10 +28,6 @@ unfolding encode_parts bytes_of
 encode-snoc [] p = refl
 encode-snoc (q ∷ ps) p = ap (λ (x : List ℕ). encode_part q ++ x) (encode-snoc ps p) ∙ sym (append_assoc (encode_part q) (encode_parts ps) (encode_part p))
 
-part-length : (p : Part) → length (encode_part p) ≡ 16
-unfolding bytes_of
-part-length p = refl
-
 encode-more : (f : ℕ → Part) (j : ℕ) → encode_parts (series f 0 j) ++ encode_part (f j) ≡ encode_parts (series f 0 (j + 1))
 encode-more f j =
     sym (ap encode_parts (series-snoc f 0 j) ∙ encode-snoc (series f 0 j) (f (0 + j)) ∙ ap (λ (i : ℕ). encode_parts (series f 0 j) ++ encode_part (f i)) (zero-add j))
@@ -43,6 +42,42 @@ part_by g point more next = record {
 part_by_point : {point next : Point} {more : Bool} (s : List ℕ) (g : Grid) (at : ℕ) → point ≡ point_in s at → more ≡ is_point s point.next
     → next ≡ point_in s point.next → part_by g point more next ≡ part_in s g at
 part_by_point s g at e asked ahead = rw (asked, ahead, e)
+
+-- two numbers in one of eight bytes
+pair-bytes : (a b : ℕ) → a < 4294967296 → let v = a + b * 4294967296 in
+    v % 256 ∷ v / 256 % 256 ∷ v / 65536 % 256 ∷ v / 16777216 % 256 ∷ v / 4294967296 % 256 ∷ v / 1099511627776 % 256
+    ∷ v / 281474976710656 % 256 ∷ v / 72057594037927936 % 256 ∷ [] ≡ bytes_of 4 a ++ bytes_of 4 b
+unfolding bytes_of
+pair-bytes a b l =
+    let v = a + b * 4294967296 in
+    let a2 : a / 256 / 256 ≡ a / 65536 = div-div-eq-div-mul a 256 256 in
+    let a3 : a / 65536 / 256 ≡ a / 16777216 = div-div-eq-div-mul a 65536 256 in
+    let b2 : b / 256 / 256 ≡ b / 65536 = div-div-eq-div-mul b 256 256 in
+    let b3 : b / 65536 / 256 ≡ b / 16777216 = div-div-eq-div-mul b 65536 256 in
+    let e0 : v % 256 ≡ a % 256 = omega arith in
+    let e1 : v / 256 % 256 ≡ a / 256 % 256 = omega arith in
+    let e2 : v / 65536 % 256 ≡ a / 65536 % 256 = omega arith in
+    let e3 : v / 16777216 % 256 ≡ a / 16777216 % 256 = omega arith in
+    let e4 : v / 4294967296 % 256 ≡ b % 256 = omega arith in
+    let e5 : v / 1099511627776 % 256 ≡ b / 256 % 256 = omega arith in
+    let e6 : v / 281474976710656 % 256 ≡ b / 65536 % 256 = omega arith in
+    let e7 : v / 72057594037927936 % 256 ≡ b / 16777216 % 256 = omega arith in
+    rw (a2, a3, b2, b3, e0, e1, e2, e3, e4, e5, e6, e7) refl
+
+pub pair_put : {m n : ℕ} {bytes : List ℕ} {d e : Text} (a b : ℕ) → a < 4294967296 → m ≡ a → n ≡ b → let v = m + n * 4294967296 in
+    bytes ≡ v % 256 ∷ v / 256 % 256 ∷ v / 65536 % 256 ∷ v / 16777216 % 256 ∷ v / 4294967296 % 256 ∷ v / 1099511627776 % 256
+    ∷ v / 281474976710656 % 256 ∷ v / 72057594037927936 % 256 ∷ []
+    → Writes (length bytes) d bytes e → Writes 8 d (bytes_of 4 a ++ bytes_of 4 b) e
+unfolding bytes_of
+pair_put a b l p q made w =
+    let same = rw (p, q) at made ∙ pair-bytes a b l in
+    same_text same (omega (arith, ap length same)) w
+
+pub part_put : {u : ℕ} {a b d : Text} (p : Part) → u ≡ of_z w32 p.power.0
+    → Writes 8 a (bytes_of 4 19280 ++ bytes_of 4 p.period.start.0) b → Writes 8 b (bytes_of 4 p.period.end.0 ++ bytes_of 4 u) d
+    → Writes 16 a (encode_part p) d
+unfolding bytes_of
+part_put p e v w = same_text (rw e refl) (omega arith) (then v w)
 
 -- j points are told and their parts are put; the next line is at `place`, and `point` is what it gives, if it is a point's
 pub record PartsPut (s : List ℕ) (g : Grid) (at place j : ℕ) (spelled : Bool) (point : Point) (here : Bool) (a b : Text) : Type 0 where
@@ -60,24 +95,22 @@ pub parts_none : {s : List ℕ} {g : Grid} {at : ℕ} {point : Point} {here : Bo
 unfolding encode_parts series
 parts_none {s} {g} {at} e p n l w = record { told = points_none s g at; read = e; position = p; near = n; line = l; put = w }
 
-pub parts_more : {s : List ℕ} {g : Grid} {at place j : ℕ} {ok is more here ahead : Bool} {point next : Point} {p : Part} {bytes : List ℕ} {a b d : Text}
+pub parts_more : {s : List ℕ} {g : Grid} {at place j : ℕ} {ok is more here ahead : Bool} {point next : Point} {p : Part} {a b d : Text}
     → PartsPut s g at place j ok point here a b → j < 100 → is ≡ is_point s place → is ≡ true → more ≡ is_point s point.next
     → next ≡ point_in s point.next → next.position < 10000000000 → next.next ≤ point.next + 29
     → ((h : Head) → h.period ≡ g.period → Told (point_line h g.step (part_in s g point.next)) s point.next ahead next.next)
-    → p ≡ part_by g point more next → bytes ≡ encode_part p → Writes (length bytes) b bytes d
+    → p ≡ part_by g point more next → Writes 16 b (encode_part p) d
     → PartsPut s g at point.next (j + 1) (ok && here) next ahead a d
-parts_more {s} {g} {at} {place} {j} {p = p} so_far few asked is behind read small near line e q w =
+parts_more {s} {g} {at} {place} {j} {p = p} so_far few asked is behind read small near line e w =
     let f : ℕ → Part = λ i. part_in s g (point_at s at i) in
     let made : p ≡ f j = e ∙ part_by_point s g place so_far.read behind read ∙ ap (part_in s g) so_far.told.counted.place in
-    let here = q ∙ ap encode_part made in
-    let long = ap length q ∙ part-length p in
     record {
       told = points_more so_far.told few asked is so_far.read so_far.near so_far.line;
       read = read;
       position = small;
       near = near;
       line = line;
-      put = same_text (rw here (encode-more f j)) (omega (arith, long)) (then so_far.put w);
+      put = same_text (rw made (encode-more f j)) (omega arith) (then so_far.put w);
     }
 
 pub parts_put : {s : List ℕ} {g : Grid} {at place j : ℕ} {ok here : Bool} {point : Point} {a b : Text}

@@ -1,10 +1,10 @@
 // The lines of points, told to be spelled as they are written, while they are read.
 ghost use Rattle.std.specs.Prelude.{◌≡◌, ◌+◌, ◌≤◌, ◌<◌, ◌++◌, true, false, eqb};
-ghost use Rattle.fields.specs.Fields.{u8_at};
+ghost use Rattle.fields.specs.Fields.{u8_at, bytes_of};
 ghost use Rattle.std.specs.Int.{w32};
 ghost use Rattle.std.proofs.Common.{to_z};
 ghost use Rattle.report.specs.declared.Head.{Head};
-ghost use Rattle.report.specs.Encoded.{encode_parts};
+ghost use Rattle.report.specs.Encoded.{encode_part, encode_parts};
 ghost use Rattle.texts.specs.Texts.{Writes};
 ghost use Rattle.texts.specs.Numerals.{line_feed};
 ghost use Rattle.forms.specs.Values.{signed_decimal};
@@ -16,7 +16,7 @@ ghost use Rattle.form_reading.specs.SpelledPoint.{is_position};
 use crate::spelled::{is_plain, stands};
 use crate::{Grid, Numeral, Point, Points, is_point, number_at, opposite, part_of};
 use quantities::SignedKilowatt;
-use report::MOST_PARTS;
+use report::{MOST_PARTS, Part};
 use texts::Text;
 
 // A power without a hyphen, before a line feed, and the place after that.
@@ -107,6 +107,22 @@ fn spelled_point(s: &[u8], at: usize, grid: Grid) -> (Point, bool)
     (point, spelled)
 }
 
+// Two numbers at once.
+fn put_pair(report: &mut Text, a: u32, b: u32)
+    ensures { Writes 8 report.old (bytes_of 4 a ++ bytes_of 4 b) report.new }
+{
+    let pair = u64::from(a) + u64::from(b) * 4294967296;
+    report.put(&pair.to_le_bytes());
+}
+
+// A part with its mark and zeros.
+fn put_part(report: &mut Text, p: Part)
+    ensures { Writes 16 report.old (encode_part p) report.new }
+{
+    put_pair(report, 0x4B50, p.period.start.0);
+    put_pair(report, p.period.end.0, p.power.0.cast_unsigned());
+}
+
 // The parts of the points from `at` on. Each line is read once, for its own part and for the end of the one before it.
 pub(crate) fn put_points(report: &mut Text, s: &[u8], at: usize, grid: Grid) -> (Points, bool)
     requires { at ≤ 310 }
@@ -132,7 +148,7 @@ pub(crate) fn put_points(report: &mut Text, s: &[u8], at: usize, grid: Grid) -> 
         }
         let more = is_point(s, point.next);
         let (next, ahead) = spelled_point(s, point.next, grid);
-        report.put(&encoder::part_bytes(part_of(grid, point, more, next)));
+        put_part(report, part_of(grid, point, more, next));
         place = point.next;
         spelled = spelled & here;
         point = next;

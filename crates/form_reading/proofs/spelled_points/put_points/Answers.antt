@@ -16,7 +16,7 @@ pub loop-j-preserved : goal.loop-j-preserved
 loop-j-preserved c =
     let next = c.spelled_point-ahead.ensures in
     parts_more c.loop-j.invariant c.loop-j-test.true c.is_point.ensures c.if-not-is_point.false c.is_point-more.ensures next.read next.bounds.0
-    next.bounds.1 next.told c.part_of.ensures c.part_bytes.ensures c.put-in-loop-j.ensures
+    next.bounds.1 next.told c.part_of.ensures c.put_part.ensures
 
 pub returns-clause-count : goal.returns-clause-count
 returns-clause-count c = (counted_most c.loop-j.invariant.told.counted (omega arith)).0
