@@ -85,7 +85,6 @@ fn is_position(grid: Grid, position: u64) -> bool
 
 // The point whose line is at `at`.
 #[tactic(auto, unfolding(crate::specs::Reading::point_in))]
-#[inline(always)]
 fn spelled_point(s: &[u8], at: usize, grid: Grid) -> (Point, bool)
     requires { at ≤ 8192 }
     ensures read { result.0 ≡ point_in s.now at }
