@@ -133,15 +133,12 @@ fn opposite(n: u64) -> u64
     4294967296u64.saturating_sub(n) % 4294967296
 }
 
+// Without a branch, which digits taken at random would mislead.
 #[tactic(auto, unfolding(crate::specs::Reading::hex_value, fields::specs::Lists::pick))]
 fn hex_value(c: u8) -> u8
     ensures { result ≡ hex_value c }
 {
-    if 97 <= c {
-        c - 87
-    } else {
-        c.saturating_sub(48)
-    }
+    c.saturating_sub(48) - 39 * u8::from(97 <= c)
 }
 
 // The line of a point begins with "p".
