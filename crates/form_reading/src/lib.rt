@@ -104,6 +104,7 @@ fn part(s: &[u8], at: usize, n: usize) -> &[u8]
 }
 
 // The number that stands at `at`, and the place after it.
+#[inline(always)]
 fn number_at(s: &[u8], at: usize) -> Numeral
     requires { at ≤ 65536 }
     ensures read { result ≡ number_at s.now at }
