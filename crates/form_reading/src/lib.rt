@@ -1,4 +1,5 @@
-// The report of a form. A form is read by writing: the report that its lines give is written as a form again, and compared.
+// The report of a form. `form_read` says by writing what it is: the form of the report that the lines give has to be this form. Here it
+// is not written again: each line is told, as it is read, to be spelled as what was read of it is written.
 #![tactic(auto)]
 
 ghost use Rattle.std.specs.Prelude.{◌≡◌, ℕ, ◌+◌, ◌*◌, ◌-◌, ◌≤◌, ◌<◌, ◌%◌, ◌++◌, true, false, not, ◌&&◌, eqb, List, length, replicate, take, Ok, IfOk};
