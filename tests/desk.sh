@@ -166,7 +166,7 @@ s/^owner/Owner/|$refusal line 2 has to begin with owner=
 s/^unit=1/unit=65/|$refusal its unit is not 1 to 64
 s/^owner=7/owner=1000/|$refusal its owner is not 1 to 999
 s/^type=2/type=7/|$refusal a field is out of range (question 4)
-s/^type=2/type=1/|$refusal it has no parts, or may have none (question 8)
+s/^operation=1/operation=3/|$refusal it has no parts, or may have none (question 8)
 s/^point=1/point=2/|$refusal its parts do not cover its period, part 1 is wrong (question 8)
 s/^stamp=.*/stamp=2026-03-01 24:00/|$refusal line 11 has no date such as 2026-03-01 00:10
 s/^text=/text=\xc3\xa9/|$refusal its text is not printable ASCII
@@ -235,7 +235,7 @@ unreadable_file() {
 page_for_the_shift() {
   local page=docs/SHIFT-LOG.md number
   told "$page has another log" cmp -s samples/roster-a.log <(sed '1,/^```$/d;/^```$/,$d' "$page")
-  for number in {1..23} 43; do
+  for number in {1..25} 43; do
     told "$page lacks answer $number" grep -q "^| $number |" <(sed -n '/^## Refusals/,/^## Warnings/p' "$page")
   done
   for number in 1 2 4 8; do
@@ -280,7 +280,7 @@ page_of_forms() {
     printf '%s\n' "$line" && bash -c "${line#'$ '}" 2>&1
   done < <(grep '^\$ ' "$room/said") > "$room/says"
   told 'FORM.md has something else than is said' diff "$room/said" "$room/says"
-  awk -v room="$room" '/^```$/ { inside = !inside; next } inside && /^unit=/ { n++ } inside && n { print > (room "/page" n ".form") }' docs/FORM.md
+  awk -v room="$room" '/^```$/ { inside = !inside; form = 0; next } inside && /^unit=/ { n++; form = 1 } form { print > (room "/page" n ".form") }' docs/FORM.md
   for form in "$room"/page*.form; do
     forms=$((forms + 1))
     told "FORM.md: form $forms is refused" bash -c './desk report "$1" > "$2"' - "$form" "$room/bytes"

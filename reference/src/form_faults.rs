@@ -6,7 +6,7 @@ use crate::compose::{PartFields, ReportFields};
 use crate::fields::{u16_at, u32_at};
 use crate::quantities::LAST_MINUTE;
 use crate::record::MRID_SIZE;
-use crate::report::{head, question_2_report_whole, WholeReport};
+use crate::report::{head, question_2_report_whole, WholeReport, HEAD_SIZE, PART_SIZE};
 use std::fmt::Write;
 use std::ops::RangeInclusive;
 
@@ -64,7 +64,17 @@ const PAST_END: &str = "24: position not before the end";
 const NOT_PRINTABLE: &str = "24: text not printable";
 const TOO_LONG: &str = "24: text too long";
 
-const NOT_WHOLE: &str = "25: not whole";
+const NOT_WHOLE: [&str; 9] = [
+    "25: not whole, no head",
+    "25: not whole, mark",
+    "25: not whole, zero",
+    "25: not whole, more than 100 parts",
+    "25: not whole, text longer than 200",
+    "25: not whole, length",
+    "25: not whole, mark of a part",
+    "25: not whole, zero of a part",
+    "25: not whole, mark of the text",
+];
 const RANGES_25: [&str; 9] = [
     "25: unit",
     "25: owner",
@@ -108,7 +118,8 @@ pub fn kinds() -> Vec<&'static str> {
     kinds.extend(&TOGETHER[1..]);
     kinds.extend([NO_POINTS, POINTS, MANY_POINTS, PERIOD, POWER]);
     kinds.extend([RESOLUTION, TOO_COARSE, TOO_FINE, FIRST_POSITION]);
-    kinds.extend([RISING, PAST_END, NOT_PRINTABLE, TOO_LONG, NOT_WHOLE]);
+    kinds.extend([RISING, PAST_END, NOT_PRINTABLE, TOO_LONG]);
+    kinds.extend(NOT_WHOLE);
     kinds.extend(RANGES_25);
     kinds.extend(DATES_25);
     kinds.extend(&TOGETHER_25[1..]);
@@ -182,8 +193,10 @@ fn parts_needed(numbers: Numbers) -> Option<bool> {
 
 /// Why a report has no form, or its form.
 pub fn of_report(report: &[u8]) -> Finding {
-    let Some(whole) = question_2_report_whole(report) else {
-        return finding(&[NOT_WHOLE], [WRITTEN, SEVERAL_25], Vec::new);
+    let mut faults = whole_faults(report);
+    let whole = question_2_report_whole(report).filter(|_| faults.is_empty());
+    let Some(whole) = whole else {
+        return finding(&faults, [WRITTEN, SEVERAL_25], Vec::new);
     };
     let two = |at| i128::from(u16_at(report, at));
     let one = |at: usize| i128::from(report[at]);
@@ -192,7 +205,6 @@ pub fn of_report(report: &[u8]) -> Finding {
         *number = Some(one(at));
     }
     numbers[8] = Some(two(head::REVISION));
-    let mut faults = Vec::new();
     for ((number, limits), fault) in numbers.iter_mut().zip(LIMITS).zip(RANGES_25) {
         *number = number.filter(|number| limits.contains(number));
         faults.extend(number.is_none().then_some(fault));
@@ -209,6 +221,40 @@ pub fn of_report(report: &[u8]) -> Finding {
     let printable = |byte: &u8| byte.is_ascii_graphic() || *byte == b' ';
     faults.extend((!whole.text().iter().all(printable)).then_some(TEXT_25));
     finding(&faults, [WRITTEN, SEVERAL_25], || form_of(&whole))
+}
+
+/// What question 2 finds.
+fn whole_faults(report: &[u8]) -> Vec<&'static str> {
+    let Some(head) = report.get(..HEAD_SIZE) else {
+        return vec![NOT_WHOLE[0]];
+    };
+    let [parts, text] =
+        [head::PART_COUNT, head::TEXT_LENGTH].map(|at| usize::from(u16_at(head, at)));
+    let text_mark = HEAD_SIZE + PART_SIZE * parts;
+    let right_length = report.len() == text_mark + 2 + text;
+    // Without the right length parts and text have no place.
+    let (listed, mark) = match right_length {
+        true => (
+            &report[HEAD_SIZE..text_mark],
+            &report[text_mark..text_mark + 2],
+        ),
+        false => (&[][..], &b"TX"[..]),
+    };
+    let mut listed = listed.chunks(PART_SIZE);
+    let wrong = [
+        !head.starts_with(b"RP"),
+        head[head::ZERO..] != [0, 0],
+        parts > 100,
+        text > 200,
+        !right_length,
+        listed.clone().any(|part| !part.starts_with(b"PK")),
+        listed.any(|part| part[2..4] != [0, 0]),
+        mark != b"TX",
+    ];
+    let faults = wrong.into_iter().zip(&NOT_WHOLE[1..]);
+    faults
+        .filter_map(|(wrong, fault)| wrong.then_some(*fault))
+        .collect()
 }
 
 /// What question 8 finds, part by part. A part's time out of range is past the end as well.
@@ -331,32 +377,14 @@ fn lines<'a>(form: &'a [u8], faults: &mut Vec<&'static str>) -> Vec<Line<'a>> {
 /// Whether the names are those of a form, in order; the values may still be anything.
 fn names_are_right(lines: &[Line], faults: &mut Vec<&'static str>) -> bool {
     let before = faults.len();
-    let names: Vec<&[u8]> = lines.iter().map(|(name, _)| *name).collect();
-    let text = names.iter().position(|name| name == b"text");
-    let names = match text {
-        Some(at) if at + 1 < names.len() => {
-            faults.push(AFTER_TEXT);
-            &names[..=at]
-        }
-        _ => &names[..],
-    };
-    let count = |name: &str| {
-        names
-            .iter()
-            .filter(|given| **given == name.as_bytes())
-            .count()
-    };
-    let (points, resolutions) = (count("point"), count("resolution"));
-    let mut expected = vec!["unit", "owner"];
-    expected.extend(CODES);
-    expected.extend(["ordinal", "identifier"]);
-    expected.extend(TIMES);
-    if points + resolutions > 0 {
-        expected.push("resolution");
-        expected.resize(expected.len() + points.max(1), "point");
+    let mut names: Vec<&[u8]> = lines.iter().map(|(name, _)| *name).collect();
+    if let Some(text) = names.iter().position(|name| name == b"text") {
+        faults.extend((text + 1 < names.len()).then_some(AFTER_TEXT));
+        names.truncate(text + 1);
     }
-    expected.push("text");
-    let known = |name: &&[u8]| expected.iter().any(|expected| expected.as_bytes() == *name);
+    let expected = expected_names(&names);
+    let count = |name: &str| times(name, &names);
+    let known = |given: &&[u8]| expected.iter().any(|name| name.as_bytes() == *given);
     let twice = |name: &&str| *name != "point" && count(name) > 1;
     let wrong = [
         (UNKNOWN, !names.iter().all(known)),
@@ -373,10 +401,30 @@ fn names_are_right(lines: &[Line], faults: &mut Vec<&'static str>) -> bool {
         .iter()
         .copied()
         .eq(expected.iter().map(|name| name.as_bytes()));
-    if faults.len() == before && !in_order {
-        faults.push(ORDER);
-    }
+    faults.extend((faults.len() == before && !in_order).then_some(ORDER));
     faults.len() == before
+}
+
+fn times(name: &str, names: &[&[u8]]) -> usize {
+    names
+        .iter()
+        .filter(|given| **given == name.as_bytes())
+        .count()
+}
+
+/// The names in order, with as many points as there are; resolution and points go together.
+fn expected_names(names: &[&[u8]]) -> Vec<&'static str> {
+    let (points, resolutions) = (times("point", names), times("resolution", names));
+    let mut expected = vec!["unit", "owner"];
+    expected.extend(CODES);
+    expected.extend(["ordinal", "identifier"]);
+    expected.extend(TIMES);
+    if points + resolutions > 0 {
+        expected.push("resolution");
+        expected.resize(expected.len() + points.max(1), "point");
+    }
+    expected.push("text");
+    expected
 }
 
 /// The values of lines whose names are right.
@@ -437,14 +485,7 @@ impl<'a> Values<'a> {
 
     /// The report; what has a fault is left at 0.
     fn report(mut self) -> ReportFields {
-        let names = ["unit", "owner"]
-            .into_iter()
-            .chain(CODES)
-            .chain(["ordinal"]);
-        let mut numbers = [None; 9];
-        for (index, (name, range)) in names.zip(LIMITS).enumerate() {
-            numbers[index] = self.number(self.value(name), range, RANGES[index]);
-        }
+        let numbers = self.numbers();
         let mrid = self.mrid();
         let mut times = [None; 3];
         for (index, name) in TIMES.into_iter().enumerate() {
@@ -454,31 +495,46 @@ impl<'a> Values<'a> {
             self.fault(fault, wrong);
         }
         let parts = self.parts(numbers, times);
-        let text = self.value("text");
-        let printable = text.iter().all(|&byte| (0x20..0x7F).contains(&byte));
-        self.fault(NOT_PRINTABLE, !printable);
-        self.fault(TOO_LONG, text.len() > 200);
         let [unit, owner, codes @ .., revision] = numbers.map(Option::unwrap_or_default);
-        let [record_type, operation, direction, start_mark, end_mark, qualification] =
-            codes.map(|code| code as u8);
+        let codes = codes.map(|code| code as u8);
         let [stamp, start, end] = times.map(Option::unwrap_or_default);
         ReportFields {
             unit: unit as u16,
             owner: owner as u16,
-            record_type,
-            operation,
-            direction,
-            start_mark,
-            end_mark,
-            qualification,
+            record_type: codes[0],
+            operation: codes[1],
+            direction: codes[2],
+            start_mark: codes[3],
+            end_mark: codes[4],
+            qualification: codes[5],
             revision: revision as u16,
             mrid: mrid.unwrap_or_default(),
             stamp,
             start,
             end,
             parts,
-            text: text.to_vec(),
+            text: self.text(),
         }
+    }
+
+    fn numbers(&mut self) -> Numbers {
+        let names = ["unit", "owner"]
+            .into_iter()
+            .chain(CODES)
+            .chain(["ordinal"]);
+        let mut numbers = [None; 9];
+        for (index, (name, range)) in names.zip(LIMITS).enumerate() {
+            numbers[index] = self.number(self.value(name), range, RANGES[index]);
+        }
+        numbers
+    }
+
+    fn text(&mut self) -> Vec<u8> {
+        let text = self.value("text");
+        let printable = text.iter().all(|&byte| (0x20..0x7F).contains(&byte));
+        self.fault(NOT_PRINTABLE, !printable);
+        self.fault(TOO_LONG, text.len() > 200);
+        text.to_vec()
     }
 
     fn parts(&mut self, numbers: Numbers, times: [Option<u32>; 3]) -> Vec<PartFields> {

@@ -134,7 +134,7 @@ fn text_of(report: &[u8]) -> &[u8]
 }
 
 // A text whose end stands: the bytes from `start` on. What comes before is put piece by piece, the last piece first, since the digits of a
-// number come so: each byte is stored once, where it stays.
+// number come so: each byte is stored once, where it stays. As a `Text`, from the front, a hundred points took 3.5 µs in place of 2.3.
 #[derive(Drop)]
 struct Tail<'a> {
     bytes: &'a mut [u8],

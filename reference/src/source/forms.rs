@@ -7,7 +7,7 @@ use crate::forms::RESOLUTIONS;
 use crate::quantities::LAST_MINUTE;
 use crate::random::Random;
 use crate::record::{MAX_PARTS, MRID_SIZE};
-use crate::report::MAX_TEXT;
+use crate::report::{HEAD_SIZE, MAX_TEXT};
 
 const TYPES: [RecordType; 6] = [
     RecordType::Outage,
@@ -160,7 +160,10 @@ pub fn report_without_form(random: &mut Random) -> Vec<u8> {
         9 | 10 => spoil_text(random, &mut fields),
         _ => {
             let whole = fields.bytes();
-            return broken_report(random, &whole);
+            return match random.percent(2) {
+                true => whole[..random.below(HEAD_SIZE as u32) as usize].to_vec(),
+                false => broken_report(random, &whole),
+            };
         }
     }
     fields.bytes()
@@ -203,13 +206,18 @@ fn spoil_parts(random: &mut Random, fields: &mut ReportFields) {
         return;
     };
     let any = random.below(last as u32 + 1) as usize;
-    match random.below(7) {
+    match random.below(8) {
         0 => fields.parts.clear(),
         1 => _ = fields.parts.remove(any),
         2 => fields.parts[any].start += 1,
         3 => fields.parts[any].end -= 1,
         4 => fields.end = end.wrapping_add(1),
         5 => (fields.start, fields.end) = (end, start),
+        6 => {
+            let (start, more) = (LAST_MINUTE.0 - 1_000, MAX_PARTS as u32 + 1);
+            let steps: Vec<(u32, i32)> = (1..=more).map(|part| (start + part, 7)).collect();
+            *fields = fields.clone().over(start, start + more).stepping(&steps);
+        }
         _ => fields.operation = Operation::Withdraw as u8,
     }
 }
@@ -327,70 +335,72 @@ fn other_lines(line: &[u8]) -> Vec<Vec<u8>> {
     lines
 }
 
+/// Numbers on the edges of the fields, dates and identifiers.
+const OTHERS: [&str; 60] = [
+    "",
+    "0",
+    "1",
+    "2",
+    "3",
+    "4",
+    "5",
+    "6",
+    "7",
+    "8",
+    "9",
+    "10",
+    "11",
+    "15",
+    "16",
+    "60",
+    "64",
+    "65",
+    "100",
+    "101",
+    "256",
+    "257",
+    "258",
+    "999",
+    "1000",
+    "1440",
+    "9999",
+    "10000",
+    "65535",
+    "65536",
+    "65537",
+    "26298719",
+    "26298720",
+    "99999999",
+    "100000000",
+    "1000000000",
+    "2147483647",
+    "2147483648",
+    "4294967295",
+    "4294967296",
+    "4294967297",
+    "9999999999",
+    "18446744073709551617",
+    "-0",
+    "-1",
+    "-2147483648",
+    "-2147483649",
+    "-4294967295",
+    "00",
+    "01",
+    "--1",
+    "1e3",
+    "0x1",
+    "2026-03-01 24:00",
+    "2026-02-29 00:00",
+    "2026-03-01T00:00",
+    "2050-01-01 00:00",
+    "2049-12-31 23:59",
+    "00000000000000000000000000000000",
+    "0123456789ABCDEF0123456789abcdef",
+];
+
 /// A value spelled otherwise, and values on the edges of all the fields.
 fn other_values(value: &[u8]) -> Vec<Vec<u8>> {
-    const OTHERS: [&str; 60] = [
-        "",
-        "0",
-        "1",
-        "2",
-        "3",
-        "4",
-        "5",
-        "6",
-        "7",
-        "8",
-        "9",
-        "10",
-        "11",
-        "15",
-        "16",
-        "60",
-        "64",
-        "65",
-        "100",
-        "101",
-        "256",
-        "257",
-        "258",
-        "999",
-        "1000",
-        "1440",
-        "9999",
-        "10000",
-        "65535",
-        "65536",
-        "65537",
-        "26298719",
-        "26298720",
-        "99999999",
-        "100000000",
-        "1000000000",
-        "2147483647",
-        "2147483648",
-        "4294967295",
-        "4294967296",
-        "4294967297",
-        "9999999999",
-        "18446744073709551617",
-        "-0",
-        "-1",
-        "-2147483648",
-        "-2147483649",
-        "-4294967295",
-        "00",
-        "01",
-        "--1",
-        "1e3",
-        "0x1",
-        "2026-03-01 24:00",
-        "2026-02-29 00:00",
-        "2026-03-01T00:00",
-        "2050-01-01 00:00",
-        "2049-12-31 23:59",
-        "00000000000000000000000000000000",
-        "0123456789ABCDEF0123456789abcdef",
-    ];
     let mut values: Vec<Vec<u8>> = OTHERS.iter().map(|text| text.as_bytes().to_vec()).collect();
     let before: [&[u8]; 7] = [b"0", b"00000000", b"+", b"-", b" ", b"\t", b"="];
     values.extend(before.map(|piece| [piece, value].concat()));
@@ -418,49 +428,48 @@ pub fn regridded_forms(form: &[u8]) -> Vec<Vec<u8>> {
         return Vec::new();
     };
     let mut values = points.split("\npoint=");
-    let resolution: u32 = number(values.next());
-    let points: Vec<(u32, &str)> = values
+    let resolution = number(values.next());
+    let points: Vec<Point> = values
         .filter_map(|value| value.split_once(' '))
         .map(|(position, power)| (number(Some(position)), power))
         .collect();
-    let mut grids = vec![
-        (resolution, more(&points, 101)),
-        (resolution, more(&points, 100)),
-    ];
-    for other in RESOLUTIONS.into_iter().chain([0, 2, 10, 30, 120, 14_400]) {
-        grids.push((other, points.clone()));
-        let moved = points.iter().map(|(position, power)| {
-            let place = (position - 1) * resolution;
-            (place / other.max(1) + 1, *power)
-        });
-        grids.push((other, moved.collect()));
-    }
-    for by in [1, 2, 3, 5, 24] {
-        let moved = points
-            .iter()
-            .map(|(position, power)| (position + by, *power));
-        grids.push((resolution, moved.collect()));
-        let spread = points
-            .iter()
-            .map(|(position, power)| ((position - 1) * by + 1, *power));
-        grids.push((resolution, spread.collect()));
-    }
-    let write = |(resolution, points): (u32, Vec<(u32, &str)>)| {
+    let write = |(resolution, points): (u32, Vec<Point>)| {
         let lines = points
             .iter()
             .map(|(position, power)| format!("\npoint={position} {power}"));
         let points: String = lines.collect();
         format!("{head}\nresolution={resolution}{points}\ntext={text}").into_bytes()
     };
-    grids.into_iter().map(write).collect()
+    let grids = grids(resolution, &points).into_iter();
+    grids.map(write).collect()
+}
+
+/// Position and power.
+type Point<'a> = (u32, &'a str);
+
+/// Other resolutions and points.
+fn grids<'a>(resolution: u32, points: &[Point<'a>]) -> Vec<(u32, Vec<Point<'a>>)> {
+    let moved = |place: &dyn Fn(u32) -> u32| -> Vec<Point<'a>> {
+        let points = points.iter();
+        points
+            .map(|(position, power)| (place(*position), *power))
+            .collect()
+    };
+    let power = points.last().map_or("0", |point| point.1);
+    let many = |count: u32| (1..=count).map(|position| (position, power)).collect();
+    let mut grids = vec![(resolution, many(100)), (resolution, many(101))];
+    for other in RESOLUTIONS.into_iter().chain([0, 2, 10, 30, 120, 14_400]) {
+        grids.push((other, points.to_vec()));
+        let same_minute = |position: u32| (position - 1) * resolution / other.max(1) + 1;
+        grids.push((other, moved(&same_minute)));
+    }
+    for by in [1, 2, 3, 5, 24] {
+        grids.push((resolution, moved(&|position| position + by)));
+        grids.push((resolution, moved(&|position| (position - 1) * by + 1)));
+    }
+    grids
 }
 
 fn number(text: Option<&str>) -> u32 {
     text.and_then(|text| text.parse().ok()).unwrap_or(1)
-}
-
-/// So many points at the first positions, as few lines as possible being other than they were.
-fn more<'a>(points: &[(u32, &'a str)], count: u32) -> Vec<(u32, &'a str)> {
-    let power = points.last().map_or("0", |point| point.1);
-    (1..=count).map(|position| (position, power)).collect()
 }

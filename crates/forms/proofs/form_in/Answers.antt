@@ -8,6 +8,8 @@ pub returns-then-not-has_form : goal.returns-then-not-has_form
 unfolding form_written pick
 returns-then-not-has_form c = record { value = rw (← c.has_form.ensures, c.if-not-has_form.true); bound = search rules }
 
-pub returns-clause-value : goal.returns-clause-value
+pub returns : goal.returns
 unfolding form_written pick
-returns-clause-value c = rw (← c.has_form.ensures, c.if-not-has_form.false) (ap Ok (all-lent c.put_form-start.result c.put_form-start.new.bytes (omega arith) c.put_form-start.ensures.form))
+returns c =
+    let there = all-lent c.put_form-start.result c.put_form-start.new.bytes (omega arith) c.put_form-start.ensures.form in
+    record { value = rw (← c.has_form.ensures, c.if-not-has_form.false) (ap Ok there); bound = search rules }

@@ -73,19 +73,12 @@ pub fn grids(form: &[u8]) -> Kinds<11> {
     ]
 }
 
-/// Fields on an edge, of a report that has a form.
-pub fn fields(report: &[u8]) -> Kinds<15> {
-    let code = |at: usize| report[at];
-    let [start, end] = [head::START, head::END].map(|at| u32_at(report, at));
-    let has_parts = u16_at(report, head::PART_COUNT) > 0;
-    let event = code(head::TYPE) == RecordType::Event as u8;
-    let zero_mrid = report[head::MRID..][..MRID_SIZE]
-        .iter()
-        .all(|&byte| byte == 0);
-    let early = code(head::END_MARK) == 2;
-    let unit = u16_at(report, head::UNIT);
-    let owner = u16_at(report, head::OWNER);
-    let ordinal = u16_at(report, head::REVISION);
+/// Numbers of a report that has a form, on an edge.
+pub fn numbers(report: &[u8]) -> Kinds<7> {
+    let [unit, owner, ordinal] =
+        [head::UNIT, head::OWNER, head::REVISION].map(|at| u16_at(report, at));
+    let event = report[head::TYPE] == RecordType::Event as u8;
+    let zero_mrid = report[head::MRID..][..MRID_SIZE] == [0; MRID_SIZE];
     [
         ("form: unit 1", unit == 1),
         ("form: unit 64", unit == 64),
@@ -94,28 +87,31 @@ pub fn fields(report: &[u8]) -> Kinds<15> {
         ("form: ordinal 1", ordinal == 1),
         ("form: ordinal 9999", ordinal == 9_999),
         ("form: identifier zero, no event", zero_mrid && !event),
+    ]
+}
+
+/// Direction, marks and times of a report that has a form, of the rarer kind.
+pub fn marks_and_times(report: &[u8]) -> Kinds<8> {
+    let [start, end] = [head::START, head::END].map(|at| u32_at(report, at));
+    let has_parts = u16_at(report, head::PART_COUNT) > 0;
+    let both_ways = report[head::DIRECTION] == 3;
+    let early = report[head::END_MARK] == 2;
+    let [record_type, operation] = [head::TYPE, head::OPERATION].map(|at| report[at]);
+    let [start_off, end_off] = [start, end].map(|time| !time.is_multiple_of(15));
+    [
         (
             "form: both directions beside points",
-            code(head::DIRECTION) == 3 && has_parts,
+            both_ways && has_parts,
         ),
-        ("form: executed", code(head::START_MARK) == 2),
-        (
-            "form: end mark 2 on a change",
-            early && code(head::OPERATION) == 2,
-        ),
-        (
-            "form: end mark 2 on a creation",
-            early && code(head::OPERATION) == 1,
-        ),
-        ("form: end mark 2 on a stop", early && code(head::TYPE) == 1),
+        ("form: executed", report[head::START_MARK] == 2),
+        ("form: end mark 2 on a change", early && operation == 2),
+        ("form: end mark 2 on a creation", early && operation == 1),
+        ("form: end mark 2 on a stop", early && record_type == 1),
         ("form: start not before the end", start >= end),
-        (
-            "form: start off the quarter hour",
-            !start.is_multiple_of(15),
-        ),
+        ("form: start off the quarter hour", start_off),
         (
             "form: end off the quarter hour beside points",
-            !end.is_multiple_of(15) && has_parts,
+            end_off && has_parts,
         ),
     ]
 }

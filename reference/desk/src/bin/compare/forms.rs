@@ -3,7 +3,7 @@
 
 use crate::case::{put_bytes, put_hex, Difference};
 use crate::damaged;
-use crate::form_kinds::{fields, grids, operations, parts_and_text, rooms};
+use crate::form_kinds::{grids, marks_and_times, numbers, operations, parts_and_text, rooms};
 use crate::form_kinds::{FORM_ROOMS, REPORT_ROOMS};
 use crate::stages::Outcome;
 use crate::tally::Tally;
@@ -188,7 +188,8 @@ impl<'a> Forms<'a> {
         if let Some(form) = &finding.bytes {
             self.tally.count_forms(operations(report));
             self.tally.count_forms(grids(form));
-            self.tally.count_forms(fields(report));
+            self.tally.count_forms(numbers(report));
+            self.tally.count_forms(marks_and_times(report));
             self.tally.count_forms(parts_and_text(report));
         }
         Ok(())
