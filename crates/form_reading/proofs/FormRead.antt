@@ -1,4 +1,4 @@
--- What is read by writing it again and comparing. Assumes nothing.
+-- What is read of a form that is told by its lines. Assumes nothing.
 use Rattle.std.proofs.Common.{◌≡◌, ℕ, ◌+◌, ◌≤◌, ◌&&◌, ◌||◌, Bool, true, false, List, refl, sym, ap, ◌∙◌, arith, length, take, Ok, Err, eqb}
 use Rattle.fields.specs.Lists.{pick, part}
 use Rattle.fields.proofs.Slices.{part-put}

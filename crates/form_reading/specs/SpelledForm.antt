@@ -1,6 +1,9 @@
 -- A whole form, told by its lines: what they give, written at the resolution that they give, is the form again.
-use Rattle.std.specs.Prelude.{ℕ, Bool, List}
+use Rattle.std.specs.Prelude.{ℕ, Bool, List, ◌++◌}
 use Rattle.fields.specs.Lists.{part, same_list}
+use Rattle.fields.specs.Fields.{bytes_of}
+use Rattle.report.specs.Report.{text_mark}
+use Rattle.report.specs.Encoded.{encode_parts}
 use Rattle.forms.specs.Form.{form_at}
 use Rattle.form_reading.specs.declared.Lines.{Lines}
 use Rattle.form_reading.specs.Reading.{lines_in, grid_of, parts_in}
@@ -11,3 +14,8 @@ own_form s l =
 
 unfoldable pub is_own_form : List ℕ → Bool
 is_own_form s = same_list (own_form s (lines_in s)) s
+
+-- the report without its head
+abbrev pub body_by : List ℕ → Lines → List ℕ
+body_by s l =
+    encode_parts (parts_in s (grid_of l) l.points_at l.head.part_count) ++ (bytes_of 2 text_mark ++ part s l.text_at l.head.text_length)

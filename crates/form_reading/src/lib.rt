@@ -1,12 +1,13 @@
-// The report of a form. A form is read by writing: the report that its lines give is written as a form again, and compared.
+// The report of a form. `form_read` says by writing what it is: the form of the report that the lines give has to be this form. Here it
+// is not written again: each line is told, as it is read, to be spelled as what was read of it is written.
 #![tactic(auto)]
 
-ghost use Rattle.std.specs.Prelude.{◌≡◌, ℕ, ◌+◌, ◌*◌, ◌-◌, ◌≤◌, ◌<◌, ◌%◌, ◌++◌, true, false, not, ◌&&◌, eqb, List, length, Ok, IfOk};
+ghost use Rattle.std.specs.Prelude.{◌≡◌, ℕ, ◌+◌, ◌*◌, ◌-◌, ◌≤◌, ◌<◌, ◌%◌, ◌++◌, true, false, not, ◌&&◌, eqb, List, length, replicate, take, Ok, IfOk};
 ghost use Rattle.fields.specs.Ascii.{ascii};
 ghost use Rattle.fields.specs.Fields.{u8_at};
 ghost use Rattle.fields.specs.Lists.{pick, part};
 ghost use Rattle.report.specs.Report.{head_of, parts_of};
-ghost use Rattle.report.specs.Encoded.{encode_head, encode_parts};
+ghost use Rattle.report.specs.Encoded.{encode_parts};
 ghost use Rattle.texts.specs.Texts.{Writes, Puts};
 ghost use Rattle.forms.specs.Values.{line, number_line};
 ghost use Rattle.forms.specs.Form.{text_of, has_form, all_fall, resolution_of, form_at, form_of, IsFormOf};
@@ -15,7 +16,7 @@ ghost use Rattle.form_reading.specs.Reading.{is_digit, number_at, power_at, hex_
 ghost use Rattle.form_reading.specs.Reading.{text_length_in, lines_in, head_by, minute_of, grid_of, parts_in, report_by, report_of};
 ghost use Rattle.form_reading.specs.Reading.{is_form_of, no_report, form_read, AreBytes};
 ghost use Rattle.form_reading.specs.Spelled.{Told};
-ghost use Rattle.form_reading.specs.SpelledForm.{is_own_form};
+ghost use Rattle.form_reading.specs.SpelledForm.{is_own_form, body_by};
 
 mod spelled;
 mod spelled_points;
@@ -104,6 +105,7 @@ fn part(s: &[u8], at: usize, n: usize) -> &[u8]
 }
 
 // The number that stands at `at`, and the place after it.
+#[inline(always)]
 fn number_at(s: &[u8], at: usize) -> Numeral
     requires { at ≤ 65536 }
     ensures read { result ≡ number_at s.now at }
@@ -133,36 +135,12 @@ fn opposite(n: u64) -> u64
     4294967296u64.saturating_sub(n) % 4294967296
 }
 
-// The bits of the power at `at`, and the place after the byte behind it.
-#[tactic(auto, unfolding(crate::specs::Reading::power_at, fields::specs::Lists::pick))]
-fn power_at(s: &[u8], at: usize) -> Numeral
-    requires { at ≤ 32768 }
-    ensures read { result ≡ power_at s.now at }
-    ensures bounds { (result.value < 4294967296) × (result.next ≤ at + 12) }
-{
-    if fields::u8_at(s, at) == b'-' {
-        let size = number_at(s, at + 1);
-        return Numeral {
-            value: opposite(size.value),
-            next: size.next + 1,
-        };
-    }
-    let n = number_at(s, at);
-    Numeral {
-        value: n.value % 4294967296,
-        next: n.next + 1,
-    }
-}
-
+// Without a branch, which digits taken at random would mislead.
 #[tactic(auto, unfolding(crate::specs::Reading::hex_value, fields::specs::Lists::pick))]
 fn hex_value(c: u8) -> u8
     ensures { result ≡ hex_value c }
 {
-    if 97 <= c {
-        c - 87
-    } else {
-        c.saturating_sub(48)
-    }
+    c.saturating_sub(48) - 39 * u8::from(97 <= c)
 }
 
 // The line of a point begins with "p".
@@ -170,21 +148,6 @@ fn is_point(s: &[u8], at: usize) -> bool
     ensures { result ≡ is_point s.now at }
 {
     fields::u8_at(s, at) == b'p'
-}
-
-#[tactic(auto, unfolding(crate::specs::Reading::point_in))]
-fn point_in(s: &[u8], at: usize) -> Point
-    requires { at ≤ 8192 }
-    ensures read { result ≡ point_in s.now at }
-    ensures bounds { (result.position < 10000000000) × (result.next ≤ at + 29) }
-{
-    let position = number_at(s, at + 6);
-    let power = power_at(s, position.next + 1);
-    Point {
-        position: position.value,
-        power: SignedKilowatt((power.value as u32).cast_signed()),
-        next: power.next,
-    }
 }
 
 // What is left of the form behind the name of its last line and before the line feed.
@@ -251,51 +214,6 @@ fn part_of(grid: Grid, point: Point, more: bool, next: Point) -> Part
     Part { period, power }
 }
 
-fn grid_of(lines: Lines) -> Grid
-    ensures { result ≡ grid_of lines }
-{
-    let period = lines.head.period;
-    let step = lines.step;
-    Grid { period, step }
-}
-
-// The head and the parts. Each line is read once, for its own part and for the end of the one before it.
-fn put_parts(report: &mut Text, form: &[u8], lines: Lines)
-    requires { (lines.points_at ≤ 310) × (lines.head.part_count ≤ 100) }
-    ensures { Writes 1648 report.old (encode_head lines.head ++ encode_parts (parts_in form.now (grid_of lines) lines.points_at lines.head.part_count)) report.new }
-{
-    let head = lines.head;
-    let grid = grid_of(lines);
-    report.put(&encoder::head_bytes(head));
-    let mut point = point_in(form, lines.points_at);
-    for _ in 0..head.part_count {
-        let more = is_point(form, point.next);
-        let next = point_in(form, point.next);
-        report.put(&encoder::part_bytes(part_of(grid, point, more, next)));
-        point = next;
-    }
-}
-
-// The report that these lines say.
-fn put_report(report: &mut Text, form: &[u8], lines: Lines)
-    requires { (lines.points_at ≤ 310) × (lines.head.part_count ≤ 100) × (lines.head.text_length ≤ 200) }
-    ensures { Writes 1850 report.old (report_by form.now lines) report.new }
-{
-    put_parts(report, form, lines);
-    report.put(b"TX");
-    report.put(part(form, lines.text_at, usize::from(lines.head.text_length)));
-}
-
-// The same at the start of the bytes; its length.
-fn put_report_by(form: &[u8], lines: Lines, bytes: &mut [u8]) -> usize
-    requires { (lines.points_at ≤ 310) × (lines.head.part_count ≤ 100) × (lines.head.text_length ≤ 200) }
-    ensures { Puts 1850 bytes.old (report_by form.now lines) bytes.new result }
-{
-    let mut report = Text::new(bytes);
-    put_report(&mut report, form, lines);
-    report.end()
-}
-
 // The resolution, where its line is there: its name begins with "r". No line is told where none is there.
 #[tactic(auto, unfolding(crate::specs::Reading::resolution_in, fields::specs::Lists::pick))]
 fn resolution_line(s: &[u8], at: usize) -> (Numeral, bool)
@@ -335,12 +253,13 @@ fn parts_are_spelled(part_count: u16, there: bool, resolution: bool, points: boo
     }
 }
 
-// What the lines give, and whether it is written as they are, at the resolution that they give.
+// What the lines give, and whether it is written as they are, at the resolution that they give. The parts are put as they are read.
 #[tactic(auto, unfolding(crate::specs::Reading::lines_in))]
-fn lines_in(s: &[u8]) -> (Lines, bool)
+fn put_parts(report: &mut Text, s: &[u8]) -> (Lines, bool)
     ensures read { result.0 ≡ lines_in s.now }
     ensures spelled { result.1 ≡ is_own_form s.now }
-    ensures bounds { (result.0.head.part_count ≤ 100) × (result.0.head.text_length ≤ 200) × (result.0.points_at ≤ 310) × (result.0.text_at ≤ 3215) }
+    ensures put { Writes 1600 report.old (encode_parts (parts_in s.now (grid_of result.0) result.0.points_at result.0.head.part_count)) report.new }
+    ensures bounds { (result.0.head.text_length ≤ 200) × (result.0.text_at ≤ 3215) }
 {
     let (codes, a) = spelled::code_lines(s);
     let (marks, b) = spelled::mark_lines(s, codes.next);
@@ -348,7 +267,7 @@ fn lines_in(s: &[u8]) -> (Lines, bool)
     let (resolution, d) = resolution_line(s, dates.next);
     let period = dates.period;
     let step = (resolution.value % 65536) as u16;
-    let (points, e) = spelled_points::spelled_points(s, resolution.next, Grid { period, step });
+    let (points, e) = spelled_points::put_points(report, s, resolution.next, Grid { period, step });
     let (text_length, f) = text_line(s, points.next);
     let there = fields::u8_at(s, dates.next) == b'r';
     let rest = parts_are_spelled(points.count, there, d, e) & f;
@@ -363,14 +282,40 @@ fn lines_in(s: &[u8]) -> (Lines, bool)
     (lines, a & b & c & rest & ends)
 }
 
-// The report that the form's lines say, at the start of the scratch.
-fn report_of_lines<'a>(form: &[u8], lines: Lines, scratch: &'a mut [u8; MOST_REPORT]) -> &'a [u8]
-    requires { (lines.points_at ≤ 310) × (lines.head.part_count ≤ 100) × (lines.head.text_length ≤ 200) }
-    ensures report { result.now ≡ report_by form.now lines }
-    ensures bound { length result.now ≤ 1850 }
+// The report that the lines say, with zeros where its head comes, which is known last.
+fn put_body(report: &mut Text, form: &[u8]) -> (Lines, bool)
+    ensures read { result.0 ≡ lines_in form.now }
+    ensures spelled { result.1 ≡ is_own_form form.now }
+    ensures put { Writes 1850 report.old (replicate 48 0 ++ body_by form.now result.0) report.new }
 {
-    let end = put_report_by(form, lines, scratch);
-    &scratch[..end]
+    report.put(&[0u8; 48]);
+    let (lines, spelled) = put_parts(report, form);
+    report.put(b"TX");
+    report.put(part(form, lines.text_at, usize::from(lines.head.text_length)));
+    (lines, spelled)
+}
+
+// The same at the start of the bytes; its length.
+fn put_body_at(form: &[u8], bytes: &mut [u8]) -> (Lines, bool, usize)
+    ensures read { result.0 ≡ lines_in form.now }
+    ensures spelled { result.1 ≡ is_own_form form.now }
+    ensures put { Puts 1850 bytes.old (replicate 48 0 ++ body_by form.now result.0) bytes.new result.2 }
+{
+    let mut report = Text::new(bytes);
+    let (lines, spelled) = put_body(&mut report, form);
+    (lines, spelled, report.end())
+}
+
+// The report that the form's lines say, at the start of the scratch; its length.
+fn put_report(form: &[u8], scratch: &mut [u8; MOST_REPORT]) -> (Lines, bool, usize)
+    ensures read { result.0 ≡ lines_in form.now }
+    ensures spelled { result.1 ≡ is_own_form form.now }
+    ensures report { take result.2 scratch.new ≡ report_by form.now result.0 }
+    ensures bound { result.2 ≤ 1850 }
+{
+    let (lines, spelled, end) = put_body_at(form, scratch);
+    fields::put_bytes(scratch, 0, &encoder::head_bytes(lines.head));
+    (lines, spelled, end)
 }
 
 // The report that the form's lines say, as far as they say something, at the start of the scratch: of a text that is no form too.
@@ -378,8 +323,8 @@ pub fn report_in<'a>(form: &[u8], scratch: &'a mut [u8; MOST_REPORT]) -> &'a [u8
     ensures report { result.now ≡ report_of form.now }
     ensures bound { length result.now ≤ 1850 }
 {
-    let (lines, _) = lines_in(form);
-    report_of_lines(form, lines, scratch)
+    let (_, _, end) = put_report(form, scratch);
+    &scratch[..end]
 }
 
 // Of a form whose lines are spelled as they are written: the report that they say has a form, and on their resolution.
@@ -399,12 +344,12 @@ pub fn read_form(form: &[u8], report: &mut [u8]) -> Result<usize, FormError>
     ensures report_after { report.new ≡ buffer_after (form_read form.now) report.old }
     ensures bounds { IfOk result (λ n. (n ≤ length report.old) × (n ≤ 1850)) }
 {
-    let (lines, spelled) = lines_in(form);
+    let mut scratch = [0u8; MOST_REPORT];
+    let (lines, spelled, end) = put_report(form, &mut scratch);
     if !spelled {
         return Err(FormError::NotAForm);
     }
-    let mut scratch = [0u8; MOST_REPORT];
-    let found = report_of_lines(form, lines, &mut scratch);
+    let found = &scratch[..end];
     if !is_form_of(form, lines, found) {
         return Err(FormError::NotAForm);
     }

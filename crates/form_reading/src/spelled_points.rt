@@ -1,9 +1,11 @@
 // The lines of points, told to be spelled as they are written, while they are read.
 ghost use Rattle.std.specs.Prelude.{◌≡◌, ◌+◌, ◌≤◌, ◌<◌, ◌++◌, true, false, eqb};
-ghost use Rattle.fields.specs.Fields.{u8_at};
+ghost use Rattle.fields.specs.Fields.{u8_at, bytes_of};
 ghost use Rattle.std.specs.Int.{w32};
 ghost use Rattle.std.proofs.Common.{to_z};
 ghost use Rattle.report.specs.declared.Head.{Head};
+ghost use Rattle.report.specs.Encoded.{encode_part, encode_parts};
+ghost use Rattle.texts.specs.Texts.{Writes};
 ghost use Rattle.texts.specs.Numerals.{line_feed};
 ghost use Rattle.forms.specs.Values.{signed_decimal};
 ghost use Rattle.forms.specs.Form.{point_line, point_lines};
@@ -12,9 +14,10 @@ ghost use Rattle.form_reading.specs.Spelled.{Told};
 ghost use Rattle.form_reading.specs.SpelledPoint.{is_position};
 
 use crate::spelled::{is_plain, stands};
-use crate::{Grid, Numeral, Point, Points, is_point, number_at, opposite};
+use crate::{Grid, Numeral, Point, Points, is_point, number_at, opposite, part_of};
 use quantities::SignedKilowatt;
-use report::MOST_PARTS;
+use report::{MOST_PARTS, Part};
+use texts::Text;
 
 // A power without a hyphen, before a line feed, and the place after that.
 #[tactic(auto, unfolding(crate::specs::Reading::power_at, fields::specs::Lists::pick))]
@@ -104,27 +107,56 @@ fn spelled_point(s: &[u8], at: usize, grid: Grid) -> (Point, bool)
     (point, spelled)
 }
 
-// The points from `at` on.
-pub(crate) fn spelled_points(s: &[u8], at: usize, grid: Grid) -> (Points, bool)
+// Two numbers at once.
+fn put_pair(report: &mut Text, a: u32, b: u32)
+    ensures { Writes 8 report.old (bytes_of 4 a ++ bytes_of 4 b) report.new }
+{
+    let pair = u64::from(a) + u64::from(b) * 4294967296;
+    report.put(&pair.to_le_bytes());
+}
+
+// A part with its mark and zeros.
+fn put_part(report: &mut Text, p: Part)
+    ensures { Writes 16 report.old (encode_part p) report.new }
+{
+    put_pair(report, 0x4B50, p.period.start.0);
+    put_pair(report, p.period.end.0, p.power.0.cast_unsigned());
+}
+
+// The parts of the points from `at` on. Each line is read once, for its own part and for the end of the one before it.
+pub(crate) fn put_points(report: &mut Text, s: &[u8], at: usize, grid: Grid) -> (Points, bool)
     requires { at ≤ 310 }
     ensures count { result.0.count ≡ point_count s.now at }
     ensures next { result.0.next ≡ point_at s.now at result.0.count }
     ensures told { (h : Head) → h.period ≡ grid.period → Told (point_lines h grid.step (parts_in s.now grid at result.0.count)) s.now at result.1 result.0.next }
+    ensures put { Writes 1600 report.old (encode_parts (parts_in s.now grid at result.0.count)) report.new }
     ensures bounds { (result.0.count ≤ 100) × (result.0.next ≤ 3210) }
 {
-    let mut next = at;
+    report.put(b"");
+    let mut place = at;
     let mut spelled = true;
+    let (mut point, mut here) = spelled_point(s, at, grid);
     for j in 0..MOST_PARTS {
-        if !is_point(s, next) {
-            return (Points { count: j, next }, spelled);
+        if !is_point(s, place) {
+            return (
+                Points {
+                    count: j,
+                    next: place,
+                },
+                spelled,
+            );
         }
-        let (point, here) = spelled_point(s, next, grid);
+        let more = is_point(s, point.next);
+        let (next, ahead) = spelled_point(s, point.next, grid);
+        put_part(report, part_of(grid, point, more, next));
+        place = point.next;
         spelled = spelled & here;
-        next = point.next;
+        point = next;
+        here = ahead;
     }
     let points = Points {
         count: MOST_PARTS,
-        next,
+        next: place,
     };
     (points, spelled)
 }

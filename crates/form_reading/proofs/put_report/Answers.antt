@@ -1,5 +1,7 @@
-use Rattle.form_reading.proofs.PartsPut.{report_put}
+use Rattle.std.proofs.Common.{arith, refl, replicate, ℕ}
+use Rattle.form_reading.proofs.PartsPut.{head_over}
 use Rattle.form_reading.proofs.put_report.Goals as goal
 
-pub returns : goal.returns
-returns c = report_put _ _ c.put_parts.ensures c.put.ensures (rw c.from.ensures at c.part.ensures) c.requires.2 c.put-2.ensures
+pub returns-clause-report : goal.returns-clause-report
+returns-clause-report c =
+    head_over (replicate {A = ℕ} 48 0) c.args.form.now _ c.put_body_at-spelled.ensures.put (omega arith) refl c.head_bytes.ensures (omega arith) c.put_bytes.ensures

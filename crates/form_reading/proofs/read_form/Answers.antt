@@ -7,12 +7,12 @@ use Rattle.form_reading.proofs.read_form.Goals as goal
 pub returns-then-not-spelled-clause-value : goal.returns-then-not-spelled-clause-value
 unfolding length_given
 returns-then-not-spelled-clause-value c =
-    rw (← read_no c.args.form.now (not_told c.args.form.now c.lines_in-spelled.ensures.spelled c.if-not-spelled.true))
+    rw (← read_no c.args.form.now (not_told c.args.form.now c.put_report-spelled.ensures.spelled c.if-not-spelled.true))
 
 pub returns-then-not-spelled-clause-report_after : goal.returns-then-not-spelled-clause-report_after
 unfolding buffer_after
 returns-then-not-spelled-clause-report_after c =
-    rw (← read_no c.args.form.now (not_told c.args.form.now c.lines_in-spelled.ensures.spelled c.if-not-spelled.true))
+    rw (← read_no c.args.form.now (not_told c.args.form.now c.put_report-spelled.ensures.spelled c.if-not-spelled.true))
 
 pub returns-then-not-is_form_of-clause-value : goal.returns-then-not-is_form_of-clause-value
 unfolding length_given
@@ -27,11 +27,11 @@ returns-then-not-is_form_of-clause-report_after c =
 pub returns-clause-value : goal.returns-clause-value
 returns-clause-value c =
     let form = c.args.form.now in
-    let found = c.report_of_lines-found.ensures.report ∙ ap (report_by form) c.lines_in-spelled.ensures.read in
+    let found = c.put_report-spelled.ensures.report ∙ ap (report_by form) c.put_report-spelled.ensures.read in
     rw (← read_yes form found (sym c.is_form_of.ensures ∙ c.if-not-is_form_of.false)) c.lay.ensures.value
 
 pub returns-clause-report_after : goal.returns-clause-report_after
 returns-clause-report_after c =
     let form = c.args.form.now in
-    let found = c.report_of_lines-found.ensures.report ∙ ap (report_by form) c.lines_in-spelled.ensures.read in
+    let found = c.put_report-spelled.ensures.report ∙ ap (report_by form) c.put_report-spelled.ensures.read in
     rw (← read_yes form found (sym c.is_form_of.ensures ∙ c.if-not-is_form_of.false)) c.lay.ensures.buffer_after
