@@ -8,8 +8,8 @@ use lib.ListN.{length, length-take, take, drop}
 use lib.Seq.{take-length}
 use lib.Dec.{leb, ltb, eqb}
 use borrow.Author.Tests.{leb-true, ltb-true, eqb-true, le-leb}
-use Rattle.std.specs.Prelude.{is_ok, Result}
-use Rattle.fields.specs.Lists.{every, and_each, all, series}
+use Rattle.std.specs.Prelude.{is_ok, Result, Ok, Err}
+use Rattle.fields.specs.Lists.{pick, every, and_each, all, series}
 use Rattle.fields.specs.Fields.{u8_at}
 use Rattle.fields.proofs.Bools.{every_true, and_left, and_right, and_both, pick-elim}
 use Rattle.fields.proofs.Slices.{part-lent}
@@ -28,7 +28,9 @@ use Rattle.rules.specs.Records.{fields_in_range, part_times, cover_by}
 use Rattle.rules.specs.Questions.{record_by, question4, question8}
 use Rattle.rules.specs.Codes.{between}
 use Rattle.validation.proofs.InOrder.{fields_at}
-use Rattle.forms.specs.Form.{text_of, printable, has_form}
+use Rattle.forms.specs.Form.{text_of, printable, has_form, form_of}
+use Rattle.forms.specs.Lent.{form_written}
+use Rattle.forms.specs.declared.FormError.TheVariants.{NoForm}
 
 pub record Formed (s : List ℕ) : Type 0 where
   pub whole_so : whole s ≡ true
@@ -125,3 +127,12 @@ module _ (s : List ℕ) {start t : ℕ} (from : start ≡ text_start s) (size : 
   text-short w =
       let z = whole-sized s w in
       omega (arith, length-take (start + t - start) (drop start s))
+
+-- the form of a report that has one, and where there is none
+pub had : (s : List ℕ) → has_form s ≡ true → form_written s ≡ Ok (form_of s)
+unfolding form_written pick
+had s e = rw e
+
+pub missing : (s : List ℕ) → has_form s ≡ false → form_written s ≡ Err NoForm
+unfolding form_written pick
+missing s e = rw e

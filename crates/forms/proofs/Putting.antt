@@ -4,11 +4,10 @@ use mathlib.Core.Path.{◌≡◌, refl, ap, sym, ◌∙◌}
 use mathlib.Core.Bool.{true, false}
 use mathlib.Core.List.{List, [], ◌∷◌, ◌++◌, append_assoc, append-nil}
 use native.Mathlib.Omega.{arith}
-use Rattle.std.proofs.Common.{take_all}
 use lib.Dec.{ltb}
 use lib.IntN.{ℤ, pos, nat_abs}
 use lib.Signed.{le_z}
-use lib.ListN.{length, length-append, length-drop, take, drop, drop_of_length-le, get_or}
+use lib.ListN.{length, length-append, length-drop, drop, drop_of_length-le, get_or}
 use lib.Seq.{drop-cons, drop-length}
 use borrow.Author.Tests.{lt-ltb, le-ltb, eq-eqb, ne_eqb}
 use Rattle.std.specs.Prelude.{Ok, Err}
@@ -217,7 +216,3 @@ some-points h step ps ne p q = rw (ne_eqb (length ps) 0 ne) (ahead p q)
 pub all-put : {m : ℕ} {a b : Tail} {x there : List ℕ} → a.start ≡ length a.bytes.now → Prepends m a x b → there ≡ b.bytes.now
     → drop b.start there ≡ x
 all-put {a = a} {x = x} at-end p e = rw e (p.text ∙ rw (at-end, drop-length a.bytes.now) (append-nil x))
-
--- what is lent from there to the end
-pub all-lent : {m : ℕ} (at : ℕ) (s : List ℕ) {x : List ℕ} → length s ≡ m → drop at s ≡ x → take (m - at) (drop at s) ≡ x
-all-lent {m = m} at s size e = take_all (m - at) (drop at s) (omega (arith, length-drop at s, size)) ∙ e

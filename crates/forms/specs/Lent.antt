@@ -1,6 +1,5 @@
 -- What a lent buffer is answered and holds, where some bytes are to go into it. The same for forms and for reports.
 use Rattle.std.specs.Prelude.{ℕ, Bool, List, leb, length, Result, Ok, Err}
-use Rattle.std.specs.Borrow.{Bor}
 use Rattle.fields.specs.Lists.{pick, put}
 use Rattle.forms.specs.declared.FormError.{FormError}
 use Rattle.forms.specs.declared.FormError.TheVariants.{NoForm, NoRoom}
@@ -22,8 +21,3 @@ buffer_after (Err e) buffer = buffer
 -- "a report without a form is 25"
 unfoldable pub form_written : List ℕ → Result (List ℕ) FormError
 form_written report = pick (has_form report) (Ok (form_of report)) (Err NoForm)
-
--- bytes that are lent, by what they are
-abbrev pub bytes_given : Result (Bor (List ℕ)) FormError → Result (List ℕ) FormError
-bytes_given (Ok bytes) = Ok bytes.now
-bytes_given (Err e) = Err e

@@ -15,7 +15,7 @@ ghost use Rattle.forms.specs.Values.{line, number_line, date_line, hex_text, sig
 ghost use Rattle.forms.specs.Form.{text_of, printable, has_form, code_lines, mark_lines, date_lines, after_start, falls, all_fall, resolution_of};
 ghost use Rattle.forms.specs.Form.{position, point_line, point_lines, part_lines, form_of, Coarsest};
 ghost use Rattle.forms.specs.Tails.{has_place, Prepends};
-ghost use Rattle.forms.specs.Lent.{length_given, buffer_after, form_written, bytes_given};
+ghost use Rattle.forms.specs.Lent.{length_given, buffer_after, form_written};
 ghost use Rattle.forms.specs.Refusals.{number_of};
 
 use quantities::{Minute, SignedKilowatt};
@@ -272,8 +272,8 @@ impl<'a> Tail<'a> {
     // From the last part to the first.
     fn put_point_lines(&mut self, h: Head, step: u32, report: &[u8])
         requires step { 1 ≤ step }
-        requires place { (part_count_of report.now ≤ most_parts) × has_place 2920 self.old }
-        ensures { Prepends 2900 self.old (point_lines h step (parts_of report.now)) self.new }
+        requires place { has_place (20 + 29 * part_count_of report.now) self.old }
+        ensures { Prepends (29 * part_count_of report.now) self.old (point_lines h step (parts_of report.now)) self.new }
     {
         let k = report::part_count(report);
         for i in 0..k {
@@ -282,8 +282,8 @@ impl<'a> Tail<'a> {
     }
 
     fn put_part_lines(&mut self, h: Head, report: &[u8])
-        requires { (part_count_of report.now ≤ most_parts) × has_place 2932 self.old }
-        ensures { Prepends 2932 self.old (part_lines h (resolution_of h (parts_of report.now)) (parts_of report.now)) self.new }
+        requires { has_place (32 + 29 * part_count_of report.now) self.old }
+        ensures { Prepends (32 + 29 * part_count_of report.now) self.old (part_lines h (resolution_of h (parts_of report.now)) (parts_of report.now)) self.new }
     {
         if report::part_count(report) != 0 {
             let step = resolution(report, h);
@@ -304,8 +304,8 @@ impl<'a> Tail<'a> {
 
     fn put_lines(&mut self, report: &[u8])
         requires form { has_form report.now ≡ true }
-        requires place { has_place 3516 self.old }
-        ensures { Prepends 3516 self.old (form_of report.now) self.new }
+        requires place { has_place (616 + 29 * part_count_of report.now) self.old }
+        ensures { Prepends (616 + 29 * part_count_of report.now) self.old (form_of report.now) self.new }
     {
         let h = report::head_of(report);
         self.put_text_line(report);
@@ -317,10 +317,12 @@ impl<'a> Tail<'a> {
 }
 
 // The form, up to the end of the bytes; where it begins.
-fn put_form(bytes: &mut [u8; MOST_FORM], report: &[u8]) -> usize
-    requires { has_form report.now ≡ true }
+fn put_form(bytes: &mut [u8], report: &[u8]) -> usize
+    requires form { has_form report.now ≡ true }
+    requires place { 616 + 29 * part_count_of report.now ≤ length bytes.old }
     ensures form { drop result bytes.new ≡ form_of report.now }
     ensures inside { result ≤ length bytes.new }
+    ensures size { length bytes.new ≤ result + (616 + 29 * part_count_of report.now) }
 {
     let start = bytes.len();
     let mut tail = Tail { bytes, start };
@@ -373,28 +375,35 @@ pub fn lay(bytes: &[u8], buffer: &mut [u8]) -> Result<usize, FormError>
     Ok(bytes.len())
 }
 
-// The form of a report, in the scratch; 25 where it has none.
-pub fn form_in<'a>(report: &[u8], scratch: &'a mut [u8; MOST_FORM]) -> Result<&'a [u8], FormError>
-    ensures value { bytes_given result ≡ form_written report.now }
-    ensures bound { IfOk result (λ form. length form.now ≤ 3584) }
+// The form of a report that has one, by way of N bytes of its own.
+fn lay_form<const N: usize>(report: &[u8], form: &mut [u8]) -> Result<usize, FormError>
+    requires form { has_form report.now ≡ true }
+    requires place { (616 + 29 * part_count_of report.now ≤ N) × (N ≤ 3584) }
+    ensures value { result ≡ length_given (Ok (form_of report.now)) form.old }
+    ensures form_after { form.new ≡ buffer_after (Ok (form_of report.now)) form.old }
+    ensures bounds { IfOk result (λ n. (n ≤ length form.old) × (n ≤ 3584)) }
 {
-    if !has_form(report) {
-        return Err(FormError::NoForm);
-    }
-    let start = put_form(scratch, report);
-    Ok(&scratch[start..])
+    let mut scratch = [0u8; N];
+    let bytes = &mut scratch[..];
+    let start = put_form(bytes, report);
+    lay(&bytes[start..], form)
 }
 
-// The form of a report at the start of a lent buffer, whose other bytes stay: its length, or 25, then 43.
-#[tactic(auto, unfolding(crate::specs::Lent::length_given, crate::specs::Lent::buffer_after))]
+// The form of a report at the start of a lent buffer, whose other bytes stay: its length, or 25, then 43. Of the longest form's bytes a
+// report with few parts would clear most for nothing.
 pub fn write_form(report: &[u8], form: &mut [u8]) -> Result<usize, FormError>
     ensures value { result ≡ length_given (form_written report.now) form.old }
     ensures form_after { form.new ≡ buffer_after (form_written report.now) form.old }
     ensures bounds { IfOk result (λ n. (n ≤ length form.old) × (n ≤ 3584)) }
 {
-    let mut scratch = [0u8; MOST_FORM];
-    let bytes = form_in(report, &mut scratch)?;
-    lay(bytes, form)
+    if !has_form(report) {
+        return Err(FormError::NoForm);
+    }
+    if report::part_count(report) <= 10 {
+        lay_form::<1024>(report, form)
+    } else {
+        lay_form::<MOST_FORM>(report, form)
+    }
 }
 
 // This does nothing: its contract is the law that the writer picks the coarsest resolution.
