@@ -12,7 +12,7 @@ ghost use Rattle.texts.specs.Texts.{Writes, Puts};
 ghost use Rattle.forms.specs.Values.{line, number_line};
 ghost use Rattle.forms.specs.Form.{text_of, has_form, all_fall, resolution_of, form_at, form_of, IsFormOf};
 ghost use Rattle.forms.specs.Lent.{length_given, buffer_after};
-ghost use Rattle.form_reading.specs.Reading.{is_digit, number_at, power_at, hex_value, resolution_in, is_point, point_in};
+ghost use Rattle.form_reading.specs.Reading.{number_at, hex_value, resolution_in, is_point};
 ghost use Rattle.form_reading.specs.Reading.{text_length_in, lines_in, head_by, minute_of, grid_of, parts_in, report_by, report_of};
 ghost use Rattle.form_reading.specs.Reading.{is_form_of, no_report, form_read, AreBytes};
 ghost use Rattle.form_reading.specs.Spelled.{Told};
@@ -23,7 +23,7 @@ mod spelled_points;
 
 use forms::FormError;
 use quantities::{Minute, Period, SignedKilowatt};
-use report::{Direction, Head, MOST_PARTS, Mark, Operation, Part, RecordType};
+use report::{Direction, Head, Mark, Operation, Part, RecordType};
 use texts::Text;
 
 // No report is longer.
