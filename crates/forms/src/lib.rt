@@ -345,6 +345,7 @@ fn unit_in_range(unit: u16) -> bool
     (1 <= unit) & (unit <= 64)
 }
 
+// The parts' times need not be asked: parts that cover a period up to a time are over by then.
 pub fn has_form(report: &[u8]) -> bool
     ensures { result ≡ has_form report.now }
 {
@@ -352,7 +353,7 @@ pub fn has_form(report: &[u8]) -> bool
         return false;
     }
     let h = report::head_of(report);
-    validation::fields_in_range(h, report)
+    validation::head_passes(h)
         & validation::judge_cover(h, report).is_ok()
         & unit_in_range(h.unit)
         & records::owner_in_range(h.owner)

@@ -114,7 +114,7 @@ fn operation_in_range(o: Operation) -> bool
 
 // Question 4, but for the parts.
 #[tactic(auto, unfolding(rules::specs::Questions::question4, fields::specs::Lists::every, fields::specs::Lists::and_each))]
-fn head_passes(h: Head) -> bool
+pub fn head_passes(h: Head) -> bool
     ensures { result ≡ question4 h [] }
 {
     let r = records::record_by(h);

@@ -10,6 +10,8 @@ returns-then-not-has_form c = record { value = rw (← c.has_form.ensures, c.if-
 
 pub returns : goal.returns
 unfolding form_written pick
-returns c =
-    let there = all-lent c.put_form-start.result c.put_form-start.new.bytes (omega arith) c.put_form-start.ensures.form in
-    record { value = rw (← c.has_form.ensures, c.if-not-has_form.false) (ap Ok there); bound = search rules }
+returns c = record {
+  value = rw (← c.has_form.ensures, c.if-not-has_form.false)
+      (ap Ok (all-lent c.put_form-start.result c.put_form-start.new.bytes (omega arith) c.put_form-start.ensures.form));
+  bound = search rules;
+}

@@ -11,6 +11,6 @@ returns-then-not-is_whole c = rw (← c.is_whole.ensures, c.if-not-is_whole.true
 
 pub returns : goal.returns
 returns c =
-    tested c.args.report.now (sym c.is_whole.ensures ∙ c.if-not-is_whole.false) c.head_of-h.ensures c.fields_in_range.ensures
+    tested c.args.report.now (sym c.is_whole.ensures ∙ c.if-not-is_whole.false) c.head_of-h.ensures c.head_passes.ensures
     (c.is_ok.ensures.value ∙ ap is_ok c.judge_cover.ensures) c.unit_in_range.ensures c.owner_in_range.ensures
     (c.is_printable.ensures ∙ ap (all printable) c.text_of.ensures.text)
