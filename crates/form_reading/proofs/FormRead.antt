@@ -1,22 +1,13 @@
 -- What is read of a form that is told by its lines. Assumes nothing.
-use Rattle.std.proofs.Common.{◌≡◌, ℕ, ◌+◌, ◌≤◌, ◌&&◌, ◌||◌, Bool, true, false, List, refl, sym, ap, ◌∙◌, arith, length, take, Ok, Err, eqb}
-use Rattle.fields.specs.Lists.{pick, part}
-use Rattle.fields.proofs.Slices.{part-put}
+use Rattle.std.proofs.Common.{◌≡◌, ℕ, ◌&&◌, ◌||◌, Bool, true, false, List, refl, sym, ap, ◌∙◌, Ok, Err, eqb}
+use Rattle.fields.specs.Lists.{pick}
 use Rattle.report.specs.Report.{parts_of}
-use Rattle.texts.specs.Texts.{Puts}
 use Rattle.forms.specs.declared.FormError.TheVariants.{NotAForm}
 use Rattle.forms.specs.Form.{has_form, resolution_of}
 use Rattle.form_reading.specs.declared.Lines.{Lines}
 use Rattle.form_reading.specs.Reading.{lines_in, report_by, report_of, is_form_of, form_read}
 use Rattle.form_reading.specs.SpelledForm.{is_own_form}
 use Rattle.form_reading.proofs.OwnForm.{own_form_is, own_form_on}
-
--- the front of a buffer at whose start a text was put
-pub front_put : {m n : ℕ} {here x there : List ℕ} → Puts m here x there n → m ≤ length here → take n there ≡ x
-unfolding part
-front_put {n = n} {here} {x} p h =
-    let room : 0 + length x ≤ length here = omega (arith, p.value, p.upper_bound) in
-    rw (p.text_after, p.value) (part-put here 0 x room)
 
 never : (t : Bool) → (t && false) ≡ false
 never true = refl
@@ -33,12 +24,6 @@ module _ (form : List ℕ) where
   told_so own lines read asked has e =
       let same = read ∙ ap (report_by form) lines in
       e ∙ rw (same, lines) (own_form_on form own (ap has_form (sym same) ∙ sym asked ∙ has))
-
-  pub told_none : {report : List ℕ} {k : Bool} {l : Lines} → l ≡ lines_in form → report ≡ report_by form l → k ≡ has_form report → k ≡ false
-      → false ≡ is_form_of form (report_of form)
-  told_none lines read asked has =
-      let same = read ∙ ap (report_by form) lines in
-      rw (ap has_form (sym same) ∙ sym asked ∙ has)
 
 module _ (form : List ℕ) where
   pub read_yes : {found : List ℕ} → found ≡ report_of form → is_form_of form (report_of form) ≡ true → Ok found ≡ form_read form

@@ -113,10 +113,6 @@ parts_more {s} {g} {at} {place} {j} {p = p} so_far few asked is behind read smal
       put = same_text (rw made (encode-more f j)) (omega arith) (then so_far.put w);
     }
 
-pub parts_put : {s : List ℕ} {g : Grid} {at place j : ℕ} {ok here : Bool} {point : Point} {a b : Text}
-    → PartsPut s g at place j ok point here a b → j ≤ 100 → Writes 1600 a (encode_parts (parts_in s g at j)) b
-parts_put so_far l = same_text refl (omega (arith, l)) so_far.put
-
 regroup : (a b c d : List ℕ) → a ++ b ++ c ++ d ≡ a ++ (b ++ (c ++ d))
 regroup a b c d = simp append_assoc
 

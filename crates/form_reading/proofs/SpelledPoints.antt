@@ -123,7 +123,3 @@ points_more {s} {g} {at} {next} {j} p few asked is read near told = record {
       let here = told_as (ap (λ (i : ℕ). point_line h g.step (part_in s g i)) p.counted.place) refl (told h e) in
       told_as (points-snoc h g.step (λ i. part_in s g (point_at s at i)) j) refl (told_then (p.told h e) here);
 }
-
-pub points_most : {s : List ℕ} {g : Grid} {at next j : ℕ} {ok : Bool} → PointsTold s g at next j ok → j ≡ 100
-    → (h : Head) → h.period ≡ g.period → Told (point_lines h g.step (parts_in s g at 100)) s at ok next
-points_most p e = rw e at p.told

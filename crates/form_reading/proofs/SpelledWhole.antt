@@ -57,21 +57,20 @@ module _ (s : List ℕ) (codes : CodeLines) (marks : MarkLines) (dates : DateLin
   lines-read codes_read marks_read dates_read step_read count place long =
       rw (long, place, count, step_read, dates_read, marks_read, codes_read) refl
 
-  pub whole_told : {a b c d e f : Bool} {r : ℕ} → codes ≡ code_lines_in s → marks ≡ mark_lines_in s codes.next
+  pub whole_told : {a d e f : Bool} {r : ℕ} → codes ≡ code_lines_in s → marks ≡ mark_lines_in s codes.next
       → dates ≡ date_lines_in s marks.next → m ≡ resolution_in s dates.next → k ≡ point_count s m.next → last ≡ point_at s m.next k
-      → t ≡ text_length_in s last → Told (code_text codes) s 0 a codes.next → Told (mark_text marks) s codes.next b marks.next
-      → Told (date_text dates) s marks.next c dates.next
+      → t ≡ text_length_in s last → Told (code_text codes ++ mark_text marks ++ date_text dates) s 0 a dates.next
       → Told (number_line (ascii "resolution=") (m.value % 65536)) s dates.next d m.next
       → (eqb (u8_at s dates.next) 114 ≡ false → m.next ≡ dates.next)
       → ((h : Head) → h.period ≡ dates.period → Told (point_lines h (m.value % 65536) (parts_in s grid m.next k)) s m.next e last)
       → Told (line (ascii "text=") (part s (last + 5) t)) s last f (last + 6 + t) → r ≡ u8_at s dates.next
-      → (a && b && c && (pick (eqb k 0) (not (eqb r 114)) (d && e) && f) && eqb (last + 6 + t) (length s)) ≡ is_own_form s
+      → (a && (pick (eqb k 0) (not (eqb r 114)) (d && e) && f) && eqb (last + 6 + t) (length s)) ≡ is_own_form s
   unfolding is_own_form
-  whole_told {r = r} codes_read marks_read dates_read step_read count place long p q u resolution stays points text here =
+  whole_told {r = r} codes_read marks_read dates_read step_read count place long p resolution stays points text here =
       let h = head_by codes marks dates k t in
       let ps = parts_in s grid m.next k in
       let asked : eqb r 114 ≡ eqb (u8_at s dates.next) 114 = ap (λ (i : ℕ). eqb i 114) here in
       let rest = rest_told s (part s (last + 5) t) (m.value % 65536) h resolution text asked (λ w. stays (sym asked ∙ w)) ps (points h refl) in
-      let all = told-all (form-told h (m.value % 65536) ps (part s (last + 5) t) (head_told codes marks dates k t p q u) rest) in
+      let all = told-all (form-told h (m.value % 65536) ps (part s (last + 5) t) (head_told codes marks dates k t p) rest) in
       let size : length ps ≡ k = series-length _ 0 k in
       rw size at all ∙ ap (λ (l : Lines). same_list (own_form s l) s) (lines-read codes_read marks_read dates_read step_read count place long)

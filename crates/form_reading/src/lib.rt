@@ -2,7 +2,7 @@
 // is not written again: each line is told, as it is read, to be spelled as what was read of it is written.
 #![tactic(auto)]
 
-ghost use Rattle.std.specs.Prelude.{◌≡◌, ℕ, ◌+◌, ◌*◌, ◌-◌, ◌≤◌, ◌<◌, ◌%◌, ◌++◌, true, false, not, ◌&&◌, eqb, List, length, replicate, take, Ok, IfOk};
+ghost use Rattle.std.specs.Prelude.{◌≡◌, ℕ, ◌+◌, ◌*◌, ◌-◌, ◌≤◌, ◌<◌, ◌%◌, ◌++◌, true, false, not, ◌&&◌, eqb, List, length, replicate, take, Ok, IfOk, MatchOption};
 ghost use Rattle.fields.specs.Ascii.{ascii};
 ghost use Rattle.fields.specs.Fields.{u8_at};
 ghost use Rattle.fields.specs.Lists.{pick, part};
@@ -12,18 +12,18 @@ ghost use Rattle.texts.specs.Texts.{Writes, Puts};
 ghost use Rattle.forms.specs.Values.{line, number_line};
 ghost use Rattle.forms.specs.Form.{text_of, has_form, all_fall, resolution_of, form_at, form_of, IsFormOf};
 ghost use Rattle.forms.specs.Lent.{length_given, buffer_after};
-ghost use Rattle.form_reading.specs.Reading.{is_digit, number_at, power_at, hex_value, resolution_in, is_point, point_in};
+ghost use Rattle.form_reading.specs.Reading.{number_at, hex_value, resolution_in, is_point};
 ghost use Rattle.form_reading.specs.Reading.{text_length_in, lines_in, head_by, minute_of, grid_of, parts_in, report_by, report_of};
 ghost use Rattle.form_reading.specs.Reading.{is_form_of, no_report, form_read, AreBytes};
 ghost use Rattle.form_reading.specs.Spelled.{Told};
-ghost use Rattle.form_reading.specs.SpelledForm.{is_own_form, body_by};
+ghost use Rattle.form_reading.specs.SpelledForm.{is_own_form, body_by, HeadTold};
 
 mod spelled;
 mod spelled_points;
 
 use forms::FormError;
 use quantities::{Minute, Period, SignedKilowatt};
-use report::{Direction, Head, MOST_PARTS, Mark, Operation, Part, RecordType};
+use report::{Direction, Head, Mark, Operation, Part, RecordType};
 use texts::Text;
 
 // No report is longer.
@@ -62,6 +62,15 @@ pub struct DateLines {
     pub stamp: Minute,
     pub period: Period,
     pub next: usize,
+}
+
+// All lines of the head, and whether they are spelled as what was read of them is written.
+#[derive(Clone, Copy)]
+pub struct HeadLines {
+    pub codes: CodeLines,
+    pub marks: MarkLines,
+    pub dates: DateLines,
+    pub spelled: bool,
 }
 
 // A point's position and power, and the place after its line.
@@ -253,17 +262,40 @@ fn parts_are_spelled(part_count: u16, there: bool, resolution: bool, points: boo
     }
 }
 
+// The head's lines. Left at the first group that is not spelled as it is written, unless the reading is to be lax.
+fn head_lines(s: &[u8], lax: bool) -> Option<HeadLines>
+    ensures { MatchOption result ((lax ≡ false) × (is_own_form s.now ≡ false)) (λ l. HeadTold s.now l) }
+{
+    let (codes, a) = spelled::code_lines(s);
+    if !(a | lax) {
+        return None;
+    }
+    let (marks, b) = spelled::mark_lines(s, codes.next);
+    if !((a & b) | lax) {
+        return None;
+    }
+    let (dates, c) = spelled::date_lines(s, marks.next);
+    if !((a & b & c) | lax) {
+        return None;
+    }
+    Some(HeadLines {
+        codes,
+        marks,
+        dates,
+        spelled: a & b & c,
+    })
+}
+
 // What the lines give, and whether it is written as they are, at the resolution that they give. The parts are put as they are read.
 #[tactic(auto, unfolding(crate::specs::Reading::lines_in))]
-fn put_parts(report: &mut Text, s: &[u8]) -> (Lines, bool)
+fn put_parts(report: &mut Text, s: &[u8], head: HeadLines) -> (Lines, bool)
+    requires { HeadTold s.now head }
     ensures read { result.0 ≡ lines_in s.now }
     ensures spelled { result.1 ≡ is_own_form s.now }
     ensures put { Writes 1600 report.old (encode_parts (parts_in s.now (grid_of result.0) result.0.points_at result.0.head.part_count)) report.new }
     ensures bounds { (result.0.head.text_length ≤ 200) × (result.0.text_at ≤ 3215) }
 {
-    let (codes, a) = spelled::code_lines(s);
-    let (marks, b) = spelled::mark_lines(s, codes.next);
-    let (dates, c) = spelled::date_lines(s, marks.next);
+    let (codes, marks, dates) = (head.codes, head.marks, head.dates);
     let (resolution, d) = resolution_line(s, dates.next);
     let period = dates.period;
     let step = (resolution.value % 65536) as u16;
@@ -272,48 +304,50 @@ fn put_parts(report: &mut Text, s: &[u8]) -> (Lines, bool)
     let there = fields::u8_at(s, dates.next) == b'r';
     let rest = parts_are_spelled(points.count, there, d, e) & f;
     let ends = points.next + 6 + usize::from(text_length) == s.len();
-    let head = head_by(codes, marks, dates, points.count, text_length);
     let lines = Lines {
-        head,
+        head: head_by(codes, marks, dates, points.count, text_length),
         step,
         points_at: resolution.next,
         text_at: points.next + 5,
     };
-    (lines, a & b & c & rest & ends)
+    (lines, head.spelled & rest & ends)
 }
 
 // The report that the lines say, with zeros where its head comes, which is known last.
-fn put_body(report: &mut Text, form: &[u8]) -> (Lines, bool)
+fn put_body(report: &mut Text, form: &[u8], head: HeadLines) -> (Lines, bool)
+    requires { HeadTold form.now head }
     ensures read { result.0 ≡ lines_in form.now }
     ensures spelled { result.1 ≡ is_own_form form.now }
     ensures put { Writes 1850 report.old (replicate 48 0 ++ body_by form.now result.0) report.new }
 {
     report.put(&[0u8; 48]);
-    let (lines, spelled) = put_parts(report, form);
+    let (lines, spelled) = put_parts(report, form, head);
     report.put(b"TX");
     report.put(part(form, lines.text_at, usize::from(lines.head.text_length)));
     (lines, spelled)
 }
 
 // The same at the start of the bytes; its length.
-fn put_body_at(form: &[u8], bytes: &mut [u8]) -> (Lines, bool, usize)
+fn put_body_at(form: &[u8], head: HeadLines, bytes: &mut [u8]) -> (Lines, bool, usize)
+    requires { HeadTold form.now head }
     ensures read { result.0 ≡ lines_in form.now }
     ensures spelled { result.1 ≡ is_own_form form.now }
     ensures put { Puts 1850 bytes.old (replicate 48 0 ++ body_by form.now result.0) bytes.new result.2 }
 {
     let mut report = Text::new(bytes);
-    let (lines, spelled) = put_body(&mut report, form);
+    let (lines, spelled) = put_body(&mut report, form, head);
     (lines, spelled, report.end())
 }
 
 // The report that the form's lines say, at the start of the scratch; its length.
-fn put_report(form: &[u8], scratch: &mut [u8; MOST_REPORT]) -> (Lines, bool, usize)
+fn put_report(form: &[u8], head: HeadLines, scratch: &mut [u8; MOST_REPORT]) -> (Lines, bool, usize)
+    requires { HeadTold form.now head }
     ensures read { result.0 ≡ lines_in form.now }
     ensures spelled { result.1 ≡ is_own_form form.now }
     ensures report { take result.2 scratch.new ≡ report_by form.now result.0 }
     ensures bound { result.2 ≤ 1850 }
 {
-    let (lines, spelled, end) = put_body_at(form, scratch);
+    let (lines, spelled, end) = put_body_at(form, head, scratch);
     fields::put_bytes(scratch, 0, &encoder::head_bytes(lines.head));
     (lines, spelled, end)
 }
@@ -323,7 +357,10 @@ pub fn report_in<'a>(form: &[u8], scratch: &'a mut [u8; MOST_REPORT]) -> &'a [u8
     ensures report { result.now ≡ report_of form.now }
     ensures bound { length result.now ≤ 1850 }
 {
-    let (_, _, end) = put_report(form, scratch);
+    let Some(head) = head_lines(form, true) else {
+        return &[];
+    };
+    let (_, _, end) = put_report(form, head, scratch);
     &scratch[..end]
 }
 
@@ -344,8 +381,11 @@ pub fn read_form(form: &[u8], report: &mut [u8]) -> Result<usize, FormError>
     ensures report_after { report.new ≡ buffer_after (form_read form.now) report.old }
     ensures bounds { IfOk result (λ n. (n ≤ length report.old) × (n ≤ 1850)) }
 {
+    let Some(head) = head_lines(form, false) else {
+        return Err(FormError::NotAForm);
+    };
     let mut scratch = [0u8; MOST_REPORT];
-    let (lines, spelled, end) = put_report(form, &mut scratch);
+    let (lines, spelled, end) = put_report(form, head, &mut scratch);
     if !spelled {
         return Err(FormError::NotAForm);
     }

@@ -1,5 +1,5 @@
 // Lines that are told to be spelled as they are written, while they are read.
-ghost use Rattle.std.specs.Prelude.{◌≡◌, ℕ, ◌+◌, ◌*◌, ◌≤◌, ◌<◌, ◌%◌, [], ◌∷◌, length};
+ghost use Rattle.std.specs.Prelude.{◌≡◌, ◌+◌, ◌*◌, ◌≤◌, ◌<◌, ◌%◌, [], ◌∷◌, length};
 ghost use Rattle.fields.specs.Lists.{series};
 ghost use Rattle.calendar.specs.Reading.{print_of};
 ghost use Rattle.forms.specs.Values.{line, number_line, date_line, hex_text};

@@ -1,8 +1,18 @@
-use Rattle.std.proofs.Common.{sym, ◌∙◌, ap}
+use Rattle.std.proofs.Common.{refl, sym, ◌∙◌, ap}
 use Rattle.forms.specs.Lent.{length_given, buffer_after}
 use Rattle.form_reading.specs.Reading.{report_by}
 use Rattle.form_reading.proofs.FormRead.{not_told, read_yes, read_no}
 use Rattle.form_reading.proofs.read_form.Goals as goal
+
+pub returns-in_default-clause-value : goal.returns-in_default-clause-value
+unfolding length_given
+returns-in_default-clause-value c =
+    rw (← read_no c.args.form.now (not_told c.args.form.now refl c.in_default.ensures.1))
+
+pub returns-in_default-clause-report_after : goal.returns-in_default-clause-report_after
+unfolding buffer_after
+returns-in_default-clause-report_after c =
+    rw (← read_no c.args.form.now (not_told c.args.form.now refl c.in_default.ensures.1))
 
 pub returns-then-not-spelled-clause-value : goal.returns-then-not-spelled-clause-value
 unfolding length_given
