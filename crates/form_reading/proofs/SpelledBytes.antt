@@ -7,12 +7,13 @@ use mathlib.Core.Logic.{⊎_elim}
 use native.Mathlib.Omega.{arith}
 use native.Mathlib.Nat.{zero-add}
 use lib.Dec.{leb}
-use lib.ListN.{drop}
+use lib.ListN.{drop, get_or}
 use borrow.Author.Tests.{lt-leb, le-leb, lt-ltb, le-ltb}
 use Rattle.fields.specs.Fields.{u8_at}
 use Rattle.fields.specs.Lists.{pick, series}
 use Rattle.fields.proofs.Bools.{and_left, and_right, and_both, both_ways, or_cases, range-true, range-intro, lt-or-le}
 use Rattle.fields.proofs.Slices.{series-snoc}
+use Rattle.fields.proofs.Tests.{series-at}
 use Rattle.texts.specs.Numerals.{hex_digit}
 use Rattle.forms.specs.Values.{hex_text}
 use Rattle.form_reading.specs.Reading.{is_digit, hex_value, hex_byte}
@@ -85,9 +86,9 @@ module _ (s : List ℕ) (at : ℕ) where
   unfolding hex_text
   pair-told = record { told = both_ways tests (stands (hex_text (byte ∷ [])) s at) spelled told; after = λ t. refl }
 
-pub byte_told : {h l b : ℕ} {p q : Bool} (s : List ℕ) (at : ℕ) → h ≡ u8_at s at → l ≡ u8_at s (at + 1)
-    → b ≡ (16 * hex_value h + hex_value l) % 256 → p ≡ is_hex h → q ≡ is_hex l → Told (hex_text (b ∷ [])) s at (p && q) (at + 2)
-byte_told s at h l b p q = rw (b, p, q, h, l) (pair-told s at)
+pub byte_told : {h l b : ℕ} {r : Bool} (s : List ℕ) (at : ℕ) → h ≡ u8_at s at → l ≡ u8_at s (at + 1)
+    → b ≡ (16 * hex_value h + hex_value l) % 256 → r ≡ (is_hex h && is_hex l) → Told (hex_text (b ∷ [])) s at r (at + 2)
+byte_told s at h l b r = rw (b, r, h, l) (pair-told s at)
 
 -- bytes one after the other
 hex-append : (x y : List ℕ) → hex_text (x ++ y) ≡ hex_text x ++ hex_text y
@@ -111,6 +112,11 @@ bytes_more {s} {at} {j} {b} p e q =
     let z : 0 + j ≡ j = zero-add j in
     let more : series f 0 (j + 1) ≡ series f 0 j ++ (b ∷ []) = series-snoc f 0 j ∙ rw (z, e) in
     record { told = rw (more, hex-append (series f 0 j) (b ∷ [])) (rw next at (told_then p.told q)) }
+
+-- a digit among those that were fetched
+pub digit_there : (s : List ℕ) (at : ℕ) {d : List ℕ} → d ≡ series (u8_at s) at 32 → (k place : ℕ) → k < 32 → at + k ≡ place
+    → get_or d k 0 ≡ u8_at s place
+digit_there s at e k place l same = rw (e, ← same) (series-at (u8_at s) at 32 k 0 l)
 
 pub bytes_all : {s : List ℕ} {at j : ℕ} {a : Bool} → BytesTold s at j a → j ≡ 16 → Told (hex_text (series (hex_byte s at) 0 16)) s at a (at + 32)
 bytes_all p e = rw e at p.told

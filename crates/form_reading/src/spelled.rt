@@ -1,10 +1,10 @@
 // Lines that are told to be spelled as they are written, while they are read.
-ghost use Rattle.std.specs.Prelude.{◌≡◌, ℕ, ◌+◌, ◌*◌, ◌≤◌, ◌<◌, ◌%◌, [], ◌∷◌, length};
+ghost use Rattle.std.specs.Prelude.{◌≡◌, ℕ, ◌+◌, ◌*◌, ◌≤◌, ◌<◌, ◌%◌, ◌&&◌, length};
 ghost use Rattle.fields.specs.Lists.{series};
 ghost use Rattle.calendar.specs.Reading.{print_of};
 ghost use Rattle.forms.specs.Values.{line, number_line, date_line, hex_text};
 ghost use Rattle.fields.specs.Ascii.{ascii};
-ghost use Rattle.form_reading.specs.Reading.{number_in, hex_byte, date_at, code_lines_in, mark_lines_in, date_lines_in};
+ghost use Rattle.form_reading.specs.Reading.{number_in, hex_value, hex_byte, date_at, code_lines_in, mark_lines_in, date_lines_in};
 ghost use Rattle.form_reading.specs.Spelled.{stands, is_plain, is_hex, Told, code_text, mark_text, date_text};
 
 use crate::{CodeLines, DateLines, MarkLines, Numeral, hex_value, number_at, part};
@@ -78,27 +78,28 @@ fn is_hex(c: u8) -> bool
     c.is_ascii_digit() | ((b'a' <= c) & (c <= b'f'))
 }
 
-// Byte j of the digits that begin at `at`.
-fn hex_byte(s: &[u8], at: usize, j: usize) -> (u8, bool)
-    requires { (at ≤ 32768) × (j < 16) }
-    ensures read { result.0 ≡ hex_byte s.now at j }
-    ensures spelled { Told (hex_text (result.0 ∷ [])) s.now (at + 2 * j) result.1 (at + 2 * j + 2) }
+// The byte of two digits, and whether they are spelled.
+fn hex_byte(high: u8, low: u8) -> (u8, bool)
+    ensures value { result.0 ≡ (16 * hex_value high + hex_value low) % 256 }
+    ensures spelled { result.1 ≡ (is_hex high && is_hex low) }
 {
-    let high = fields::u8_at(s, at + 2 * j);
-    let low = fields::u8_at(s, at + 2 * j + 1);
-    let byte = (16 * u32::from(hex_value(high)) + u32::from(hex_value(low))) % 256;
-    (byte as u8, is_hex(high) & is_hex(low))
+    let byte = hex_value(high)
+        .wrapping_mul(16)
+        .wrapping_add(hex_value(low));
+    (byte, is_hex(high) & is_hex(low))
 }
 
+// The digits are fetched at once: without a test of each place the loop becomes vector code.
 fn identifier(s: &[u8], at: usize) -> ([u8; 16], bool)
     requires { at ≤ 32768 }
     ensures read { result.0 ≡ series (hex_byte s.now at) 0 16 }
     ensures spelled { Told (hex_text result.0) s.now at result.1 (at + 32) }
 {
+    let digits = fields::bytes_at::<32>(s, at);
     let mut bytes = [0u8; 16];
     let mut spelled = true;
     for j in 0..16usize {
-        let (byte, is_spelled) = hex_byte(s, at, j);
+        let (byte, is_spelled) = hex_byte(digits[2 * j], digits[2 * j + 1]);
         bytes[j] = byte;
         spelled = spelled & is_spelled;
     }

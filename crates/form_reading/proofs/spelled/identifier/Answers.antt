@@ -1,7 +1,7 @@
-use Rattle.std.proofs.Common.{arith, ◌≡◌, ◌∙◌, ap, zero-add, sym, refl, length-set}
+use Rattle.std.proofs.Common.{arith, ◌≡◌, ◌+◌, ◌*◌, ◌∙◌, ap, zero-add, sym, refl, length-set}
 use Rattle.form_reading.specs.Reading.{hex_byte}
 use Rattle.fields.proofs.Slices.{filled_none, filled_more, filled-all}
-use Rattle.form_reading.proofs.SpelledBytes.{bytes_none, bytes_more, bytes_all}
+use Rattle.form_reading.proofs.SpelledBytes.{byte_told, digit_there, bytes_none, bytes_more, bytes_all}
 use Rattle.form_reading.proofs.spelled.identifier.Goals as goal
 
 pub loop-j-init : goal.loop-j-init
@@ -9,12 +9,18 @@ loop-j-init c = (refl, filled_none (hex_byte c.args.s.now c.args.at) 0, bytes_no
 
 pub loop-j-preserved : goal.loop-j-preserved
 loop-j-preserved c =
-    let f = hex_byte c.args.s.now c.args.at in
+    let s = c.args.s.now in
+    let at = c.args.at in
+    let f = hex_byte s at in
     let l = c.loop-j in
-    let byte = c.hex_byte-byte.ensures in (
+    let fetched = c.bytes_at-digits.ensures in
+    let high = digit_there s at fetched (2 * l.j) (at + 2 * l.j) (omega arith) refl in
+    let low = digit_there s at fetched (2 * l.j + 1) (at + 2 * l.j + 1) (omega arith) (omega arith) in
+    let byte = c.hex_byte-byte.ensures in
+    let read : c.hex_byte-byte.result.0 ≡ f l.j = rw (high, low) at byte.value in (
       length-set l.bytes l.j c.hex_byte-byte.result.0 ∙ l.invariant.0,
-      filled_more f l.bytes 0 l.j l.invariant.1 (omega arith) (byte.read ∙ ap f (sym (zero-add l.j))),
-      bytes_more l.invariant.2 byte.read byte.spelled,
+      filled_more f l.bytes 0 l.j l.invariant.1 (omega arith) (read ∙ ap f (sym (zero-add l.j))),
+      bytes_more l.invariant.2 read (byte_told s (at + 2 * l.j) high low byte.value byte.spelled),
     )
 
 pub returns-clause-read : goal.returns-clause-read
