@@ -96,7 +96,7 @@ same-pointwise [] (y ∷ ys) = refl
 same-pointwise (x ∷ xs) [] = refl
 same-pointwise (x ∷ xs) (y ∷ ys) = ap (λ (t : Bool). eqb x y && t) (same-pointwise xs ys)
 
-chunk-there : (s : List ℕ) (at n : ℕ) → n ≤ length s - at → series (u8_at s) at n ≡ part s at n
+pub chunk-there : (s : List ℕ) (at n : ℕ) → n ≤ length s - at → series (u8_at s) at n ≡ part s at n
 unfolding series part
 chunk-there s at zero l = refl
 chunk-there s at (suc n) l = series-taken s at (suc n) (omega arith)

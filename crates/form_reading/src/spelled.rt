@@ -126,13 +126,11 @@ fn hex_byte(high: u8, low: u8) -> (u8, bool)
     (byte, is_hex(high) & is_hex(low))
 }
 
-// The digits are fetched at once: without a test of each place the loop becomes vector code.
-fn identifier(s: &[u8], at: usize) -> ([u8; 16], bool)
-    requires { at ≤ 32768 }
-    ensures read { result.0 ≡ series (hex_byte s.now at) 0 16 }
-    ensures spelled { Told (hex_text result.0) s.now at result.1 (at + 32) }
+// Of all the digits at once: without a test of each place the loop becomes vector code.
+fn hex_bytes(digits: &[u8; 32]) -> ([u8; 16], bool)
+    ensures read { result.0 ≡ series (hex_byte digits.now 0) 0 16 }
+    ensures spelled { Told (hex_text result.0) digits.now 0 result.1 32 }
 {
-    let digits = fields::bytes_at::<32>(s, at);
     let mut bytes = [0u8; 16];
     let mut spelled = true;
     for j in 0..16usize {
@@ -141,6 +139,25 @@ fn identifier(s: &[u8], at: usize) -> ([u8; 16], bool)
         spelled = spelled & is_spelled;
     }
     (bytes, spelled)
+}
+
+// Where the form ends among the digits.
+#[cold]
+fn identifier_cut(s: &[u8], at: usize) -> [u8; 16]
+    ensures { result ≡ series (hex_byte s.now at) 0 16 }
+{
+    let (bytes, _) = hex_bytes(&fields::bytes_at::<32>(s, at));
+    bytes
+}
+
+fn identifier(s: &[u8], at: usize) -> ([u8; 16], bool)
+    ensures read { result.0 ≡ series (hex_byte s.now at) 0 16 }
+    ensures spelled { Told (hex_text result.0) s.now at result.1 (at + 32) }
+{
+    match fields::chunk_at::<32>(s, at) {
+        Some(digits) => hex_bytes(digits),
+        None => (identifier_cut(s, at), false),
+    }
 }
 
 fn identifier_line(s: &[u8], at: usize) -> ([u8; 16], bool)
