@@ -20,7 +20,7 @@ use Rattle.form_reading.specs.declared.Numeral.{Numeral}
 use Rattle.form_reading.specs.Reading.{is_digit, digits_at, number_at}
 use Rattle.form_reading.specs.Spelled.{is_plain}
 use Rattle.form_reading.proofs.Standing.{byte_there}
-use Rattle.form_reading.proofs.Values.{first, past, digit-step, number-back}
+use Rattle.form_reading.proofs.Values.{first, past, digit-step, digits-stop, number-back}
 
 -- a number and a digit of a text
 below_next : (m d j : ℕ) → d ≤ 9 → m < 10 ^ j → 10 * m + d < 10 ^ suc j
@@ -107,6 +107,13 @@ module _ (s : List ℕ) (at : ℕ) where
       pick-elim (λ (t : Bool). t ≡ true → there) (eqb (u8_at s at) 48)
       (λ z e. one-digit (eqb-true (u8_at s at) 48 z) (eqb-true (number_at s at).next (at + 1) e))
       (λ z e. some-digits z e)
+
+-- a digit before something that is no digit
+pub one_digit : (s : List ℕ) (at c e : ℕ) → u8_at s at ≡ c → is_digit c ≡ true → u8_at s (at + 1) ≡ e → is_digit e ≡ false
+    → number_at s at ≡ record { value = c - 48; next = at + 1 }
+one_digit s at c e here d next stop =
+    let range = range-true 48 57 c d in
+    from-digit s at (c - 48) (here ∙ omega (arith, range)) (omega (arith, range)) ∙ digits-stop 9 s (at + 1) (c - 48) e next stop
 
 -- and the digits of a number are plain
 record Begins (text : List ℕ) : Type 0 where

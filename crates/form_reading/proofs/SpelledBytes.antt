@@ -1,24 +1,26 @@
 -- Hexadecimal digits that are spelled as bytes are. Assumes nothing.
-use Prim.Native.Nat.{ℕ, ◌+◌, ◌-◌, ◌*◌, ◌/◌, ◌%◌, ◌≤◌, ◌<◌}
+use Prim.Native.Nat.{ℕ, zero, suc, ◌+◌, ◌-◌, ◌*◌, ◌/◌, ◌%◌, ◌≤◌, ◌<◌}
 use mathlib.Core.Path.{◌≡◌, refl, ap, sym, ◌∙◌}
-use mathlib.Core.Bool.{Bool, true, ◌&&◌}
+use mathlib.Core.Bool.{Bool, true, false, ◌&&◌, false≢true}
 use mathlib.Core.List.{List, [], ◌∷◌, ◌++◌}
 use mathlib.Core.Logic.{⊎_elim}
 use native.Mathlib.Omega.{arith}
 use native.Mathlib.Nat.{zero-add}
 use lib.Dec.{leb}
-use lib.ListN.{drop}
+use lib.ListN.{length, drop}
+use lib.Seq.{take_all}
 use borrow.Author.Tests.{lt-leb, le-leb, lt-ltb, le-ltb}
 use Rattle.fields.specs.Fields.{u8_at}
-use Rattle.fields.specs.Lists.{pick, series}
+use Rattle.fields.specs.Lists.{pick, part, series, same_list}
 use Rattle.fields.proofs.Bools.{and_left, and_right, and_both, both_ways, or_cases, range-true, range-intro, lt-or-le}
 use Rattle.fields.proofs.Slices.{series-snoc}
+use Rattle.fields.proofs.Tests.{series-at, series-length}
 use Rattle.texts.specs.Numerals.{hex_digit}
 use Rattle.forms.specs.Values.{hex_text}
 use Rattle.form_reading.specs.Reading.{is_digit, hex_value, hex_byte}
 use Rattle.form_reading.specs.Spelled.{stands, is_hex, Told}
-use Rattle.form_reading.proofs.Values.{first, past}
-use Rattle.form_reading.proofs.Standing.{byte_there, stands-there, there-stands, told_then}
+use Rattle.form_reading.proofs.Values.{first, past, hex-length}
+use Rattle.form_reading.proofs.Standing.{byte_there, stands-there, there-stands, told_then, chunk-there, chunk_missing}
 
 -- a digit and its value
 record Digit (c : ℕ) : Type 0 where
@@ -85,9 +87,9 @@ module _ (s : List ℕ) (at : ℕ) where
   unfolding hex_text
   pair-told = record { told = both_ways tests (stands (hex_text (byte ∷ [])) s at) spelled told; after = λ t. refl }
 
-pub byte_told : {h l b : ℕ} {p q : Bool} (s : List ℕ) (at : ℕ) → h ≡ u8_at s at → l ≡ u8_at s (at + 1)
-    → b ≡ (16 * hex_value h + hex_value l) % 256 → p ≡ is_hex h → q ≡ is_hex l → Told (hex_text (b ∷ [])) s at (p && q) (at + 2)
-byte_told s at h l b p q = rw (b, p, q, h, l) (pair-told s at)
+pub byte_told : {h l b : ℕ} {r : Bool} (s : List ℕ) (at : ℕ) → h ≡ u8_at s at → l ≡ u8_at s (at + 1)
+    → b ≡ (16 * hex_value h + hex_value l) % 256 → r ≡ (is_hex h && is_hex l) → Told (hex_text (b ∷ [])) s at r (at + 2)
+byte_told s at h l b r = rw (b, r, h, l) (pair-told s at)
 
 -- bytes one after the other
 hex-append : (x y : List ℕ) → hex_text (x ++ y) ≡ hex_text x ++ hex_text y
@@ -114,3 +116,34 @@ bytes_more {s} {at} {j} {b} p e q =
 
 pub bytes_all : {s : List ℕ} {at j : ℕ} {a : Bool} → BytesTold s at j a → j ≡ 16 → Told (hex_text (series (hex_byte s at) 0 16)) s at a (at + 32)
 bytes_all p e = rw e at p.told
+
+-- digits that were fetched are those that stand there
+module _ (s : List ℕ) (at : ℕ) {d : List ℕ} (fetched : d ≡ series (u8_at s) at 32) where
+  digit-there : (k : ℕ) → k < 32 → u8_at d k ≡ u8_at s (at + k)
+  digit-there k l = rw fetched (series-at (u8_at s) at 32 k 0 l)
+
+  pub bytes_fetched : (i n : ℕ) → i + n ≤ 16 → series (hex_byte d 0) i n ≡ series (hex_byte s at) i n
+  unfolding series
+  bytes_fetched i zero most = refl
+  bytes_fetched i (suc n) most =
+      let high : u8_at d (0 + 2 * i) ≡ u8_at s (at + 2 * i) = ap (u8_at d) (omega arith) ∙ digit-there (2 * i) (omega arith) in
+      let low : u8_at d (0 + 2 * i + 1) ≡ u8_at s (at + 2 * i + 1) =
+      ap (u8_at d) (omega arith) ∙ digit-there (2 * i + 1) (omega arith) ∙ ap (u8_at s) (omega arith) in
+      rw (high, low, bytes_fetched (i + 1) n (omega arith)) refl
+
+pub fetched_told : {d s bytes : List ℕ} {at : ℕ} {b : Bool} → d ≡ series (u8_at s) at 32 → 32 ≤ length s - at
+    → bytes ≡ series (hex_byte d 0) 0 16 → Told (hex_text bytes) d 0 b 32 → Told (hex_text bytes) s at b (at + 32)
+unfolding part
+fetched_told {d} {s} {bytes} {at} fetched room read told =
+    let x = hex_text bytes in
+    let long : length x ≡ 32 = hex-length bytes ∙ rw (read, series-length (hex_byte d 0) 0 16) refl in
+    let few : length d ≡ 32 = ap length fetched ∙ series-length (u8_at s) at 32 in
+    let same : part d 0 (length x) ≡ part s at (length x) =
+    rw long (take_all 32 d (omega (arith, few)) ∙ fetched ∙ chunk-there s at 32 room) in
+    record { told = told.told ∙ ap (same_list x) same; after = λ t. rw long refl }
+
+pub cut_told : {s bytes : List ℕ} {at : ℕ} → (32 ≤ length s - at → ⊥) → bytes ≡ series (hex_byte s at) 0 16
+    → Told (hex_text bytes) s at false (at + 32)
+cut_told {s} {bytes} {at} out read =
+    let long : length (hex_text bytes) ≡ 32 = hex-length bytes ∙ rw (read, series-length (hex_byte s at) 0 16) refl in
+    record { told = chunk_missing (hex_text bytes) s at 32 long out; after = λ t. absurd (false≢true t) }

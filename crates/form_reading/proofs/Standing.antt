@@ -1,7 +1,7 @@
 -- A text that stands somewhere in a list, one text after another, and a whole list. Assumes nothing.
-use Prim.Native.Nat.{ℕ, ◌+◌, ◌≤◌, ◌<◌}
+use Prim.Native.Nat.{ℕ, zero, suc, ◌+◌, ◌-◌, ◌≤◌, ◌<◌}
 use mathlib.Core.Path.{◌≡◌, refl, ap, sym, ◌∙◌}
-use mathlib.Core.Bool.{Bool, true, false, ◌&&◌}
+use mathlib.Core.Bool.{Bool, true, false, ◌&&◌, false≢true}
 use mathlib.Core.Logic.{⊎_elim}
 use native.Mathlib.Numerals.{add-one}
 use lib.Seq.{drop-cons}
@@ -10,11 +10,12 @@ use Rattle.fields.specs.Fields.{u8_at}
 use mathlib.Core.List.{List, [], ◌∷◌, ◌++◌, append_assoc}
 use native.Mathlib.Omega.{arith}
 use lib.Dec.{eqb}
-use lib.ListN.{length, take, drop, length-append, take-append-drop}
+use lib.ListN.{length, drop, length-append, length-drop, take-append-drop}
 use lib.Pointwise.{pointwise}
 use lib.Seq.{drop-drop, take_at, take_all}
 use borrow.Author.Tests.{eqb-true, eq-eqb}
-use Rattle.fields.specs.Lists.{part, same_list}
+use Rattle.fields.specs.Lists.{part, same_list, series}
+use Rattle.fields.proofs.Rests.{series-taken}
 use Rattle.fields.proofs.Bools.{and_left, and_right, and_both, both_ways, lt-or-le}
 use Rattle.fields.proofs.Tests.{same-list-true, same-list-self}
 use Rattle.forms.specs.Values.{line}
@@ -87,7 +88,7 @@ told_then {x} {y} {s} {at} {mid} {next} {a} {b} p q =
       after = λ e. q.after (and_right a b e) ∙ rw (p.after (and_left a b e), length-append x y) (omega arith);
     }
 
--- what a slice begins with
+-- what a chunk of bytes holds
 same-pointwise : (a b : List ℕ) → pointwise eqb a b ≡ same_list a b
 unfolding same_list
 same-pointwise [] [] = refl
@@ -95,9 +96,23 @@ same-pointwise [] (y ∷ ys) = refl
 same-pointwise (x ∷ xs) [] = refl
 same-pointwise (x ∷ xs) (y ∷ ys) = ap (λ (t : Bool). eqb x y && t) (same-pointwise xs ys)
 
-pub stands_first : {r : Bool} (x s rest : List ℕ) (at : ℕ) → rest ≡ drop at s → r ≡ pointwise eqb x (take (length x) rest) → r ≡ stands x s at
-unfolding part
-stands_first x s rest at e q = q ∙ rw e (same-pointwise x (take (length x) (drop at s)))
+pub chunk-there : (s : List ℕ) (at n : ℕ) → n ≤ length s - at → series (u8_at s) at n ≡ part s at n
+unfolding series part
+chunk-there s at zero l = refl
+chunk-there s at (suc n) l = series-taken s at (suc n) (omega arith)
+
+pub chunk_stands : {r : Bool} (x s chunk : List ℕ) (at n : ℕ) → length x ≡ n → chunk ≡ series (u8_at s) at n → n ≤ length s - at
+    → r ≡ pointwise eqb x chunk → r ≡ stands x s at
+chunk_stands x s chunk at n long same room e =
+    e ∙ same-pointwise x chunk ∙ ap (same_list x) (same ∙ chunk-there s at n room) ∙ rw long refl
+
+pub chunk_missing : (x s : List ℕ) (at n : ℕ) → length x ≡ n → (n ≤ length s - at → ⊥) → false ≡ stands x s at
+chunk_missing x s at n long out =
+    both_ways false (stands x s at) (λ t. absurd (false≢true t))
+    (λ t.
+    let rest = drop (at + length x) s in
+    let l = sym (length-drop at s) ∙ ap length (stands-there x s at t) ∙ length-append x rest in
+    absurd (out (omega arith)))
 
 -- a line is told by its name, its value and a line feed
 pub name_told : {a : Bool} {x s : List ℕ} {at : ℕ} → a ≡ stands x s at → Told x s at a (at + length x)

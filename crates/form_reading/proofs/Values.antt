@@ -61,7 +61,7 @@ digit-step k s at m d e l =
     let v : 48 + d - 48 ≡ d = omega arith in
     rw (e, t, v)
 
-digits-stop : (k : ℕ) (s : List ℕ) (at n c : ℕ) → u8_at s at ≡ c → is_digit c ≡ false
+pub digits-stop : (k : ℕ) (s : List ℕ) (at n c : ℕ) → u8_at s at ≡ c → is_digit c ≡ false
     → digits_at k s at n ≡ record { value = n; next = at }
 unfolding digits_at pick
 digits-stop zero s at n c e d = refl

@@ -37,10 +37,13 @@ digits_at (suc places) s at n =
 unfoldable pub number_at : List ℕ → ℕ → Numeral
 number_at s at = digits_at 10 s at 0
 
+-- the number, and the place after the byte behind it
+abbrev pub number_past : List ℕ → ℕ → Numeral
+number_past s at = record { value = (number_at s at).value; next = (number_at s at).next + 1 }
+
 -- the number of a line whose name, with its "=", is `name` bytes long, and the next line
 abbrev pub number_in : ℕ → List ℕ → ℕ → Numeral
-number_in name s at =
-    record { value = (number_at s (at + name)).value; next = (number_at s (at + name)).next + 1 }
+number_in name s at = number_past s (at + name)
 
 -- a power as the number of its 32 bits, below 0 in two's complement, and the place after the byte behind it
 unfoldable pub power_at : List ℕ → ℕ → Numeral

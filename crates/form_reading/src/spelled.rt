@@ -1,21 +1,25 @@
 // Lines that are told to be spelled as they are written, while they are read.
-ghost use Rattle.std.specs.Prelude.{◌≡◌, ◌+◌, ◌*◌, ◌≤◌, ◌<◌, ◌%◌, [], ◌∷◌, length};
+ghost use Rattle.std.specs.Prelude.{◌≡◌, ℕ, ◌+◌, ◌*◌, ◌≤◌, ◌<◌, ◌%◌, ◌++◌, ◌&&◌, [], ◌∷◌, length};
 ghost use Rattle.fields.specs.Lists.{series};
 ghost use Rattle.calendar.specs.Reading.{print_of};
 ghost use Rattle.forms.specs.Values.{line, number_line, date_line, hex_text};
+ghost use Rattle.texts.specs.Numerals.{decimal, line_feed};
 ghost use Rattle.fields.specs.Ascii.{ascii};
-ghost use Rattle.form_reading.specs.Reading.{number_in, hex_byte, date_at, code_lines_in, mark_lines_in, date_lines_in};
+ghost use Rattle.form_reading.specs.Reading.{number_past, number_in, hex_value, hex_byte, date_at, code_lines_in, mark_lines_in, date_lines_in};
 ghost use Rattle.form_reading.specs.Spelled.{stands, is_plain, is_hex, Told, code_text, mark_text, date_text};
 
 use crate::{CodeLines, DateLines, MarkLines, Numeral, hex_value, number_at, part};
 use quantities::{Minute, Period};
 
-// Whether x stands in s at `at`.
+// Whether x stands in s at `at`. The length is known where this is called, so that a name is compared as a word or two.
 #[inline(always)]
-pub(crate) fn stands(x: &[u8], s: &[u8], at: usize) -> bool
+pub(crate) fn stands<const N: usize>(x: &[u8; N], s: &[u8], at: usize) -> bool
     ensures { result ≡ stands x.now s.now at }
 {
-    s.get(at..).unwrap_or(&[]).starts_with(x)
+    match fields::chunk_at::<N>(s, at) {
+        Some(chunk) => *x == *chunk,
+        None => false,
+    }
 }
 
 #[tactic(auto, unfolding(crate::specs::Spelled::is_plain, fields::specs::Lists::pick))]
@@ -29,18 +33,15 @@ pub(crate) fn is_plain(first: u8, only_one: bool) -> bool
     }
 }
 
-// The number of the line at `at`, below the limit where the line is spelled, and the next line.
-#[inline(always)]
-pub(crate) fn number_line(name: &[u8], limit: u64, s: &[u8], at: usize) -> (Numeral, bool)
-    requires { (at ≤ 32768) × (length name.now ≤ 16) × (1 ≤ limit) × (limit ≤ 65536) }
-    ensures read { result.0 ≡ number_in (length name.now) s.now at }
-    ensures spelled { Told (number_line name.now (result.0.value % limit)) s.now at result.1 result.0.next }
-    ensures bounds { (result.0.value < 10000000000) × (result.0.next ≤ at + length name.now + 11) }
+// Digits and a line feed: the number, below the limit where it is spelled, and the place after the line feed.
+fn digits(limit: u64, s: &[u8], at: usize) -> (Numeral, bool)
+    requires { (at ≤ 65536) × (1 ≤ limit) × (limit ≤ 65536) }
+    ensures read { result.0 ≡ number_past s.now at }
+    ensures spelled { Told (decimal (result.0.value % limit) ++ line_feed) s.now at result.1 result.0.next }
+    ensures bounds { (result.0.value < 10000000000) × (result.0.next ≤ at + 11) }
 {
-    let digits = at + name.len();
-    let n = number_at(s, digits);
-    let spelled = stands(name, s, at)
-        & is_plain(fields::u8_at(s, digits), n.next == digits + 1)
+    let n = number_at(s, at);
+    let spelled = is_plain(fields::u8_at(s, at), n.next == at + 1)
         & (n.value < limit)
         & (fields::u8_at(s, n.next) == b'\n');
     let number = Numeral {
@@ -48,6 +49,42 @@ pub(crate) fn number_line(name: &[u8], limit: u64, s: &[u8], at: usize) -> (Nume
         next: n.next + 1,
     };
     (number, spelled)
+}
+
+// The same, apart for a single digit, since most numbers have no more.
+#[inline(always)]
+fn number(limit: u64, s: &[u8], at: usize) -> (Numeral, bool)
+    requires { (at ≤ 65536) × (10 ≤ limit) × (limit ≤ 65536) }
+    ensures read { result.0 ≡ number_past s.now at }
+    ensures spelled { Told (decimal (result.0.value % limit) ++ line_feed) s.now at result.1 result.0.next }
+    ensures bounds { (result.0.value < 10000000000) × (result.0.next ≤ at + 11) }
+{
+    let pair = fields::bytes_at::<2>(s, at);
+    if pair[0].is_ascii_digit() & (pair[1] == b'\n') {
+        let number = Numeral {
+            value: u64::from(pair[0] - 48),
+            next: at + 2,
+        };
+        return (number, true);
+    }
+    digits(limit, s, at)
+}
+
+// The number of the line at `at`, below the limit where the line is spelled, and the next line.
+#[inline(always)]
+pub(crate) fn number_line<const N: usize>(
+    name: &[u8; N],
+    limit: u64,
+    s: &[u8],
+    at: usize,
+) -> (Numeral, bool)
+    requires { (at ≤ 32768) × (N ≤ 16) × (10 ≤ limit) × (limit ≤ 65536) }
+    ensures read { result.0 ≡ number_in N s.now at }
+    ensures spelled { Told (number_line name.now (result.0.value % limit)) s.now at result.1 result.0.next }
+    ensures bounds { (result.0.value < 10000000000) × (result.0.next ≤ at + N + 11) }
+{
+    let (number, spelled) = number(limit, s, at + N);
+    (number, stands(name, s, at) & spelled)
 }
 
 #[tactic(auto, unfolding(crate::specs::Reading::code_lines_in))]
@@ -78,31 +115,49 @@ fn is_hex(c: u8) -> bool
     c.is_ascii_digit() | ((b'a' <= c) & (c <= b'f'))
 }
 
-// Byte j of the digits that begin at `at`.
-fn hex_byte(s: &[u8], at: usize, j: usize) -> (u8, bool)
-    requires { (at ≤ 32768) × (j < 16) }
-    ensures read { result.0 ≡ hex_byte s.now at j }
-    ensures spelled { Told (hex_text (result.0 ∷ [])) s.now (at + 2 * j) result.1 (at + 2 * j + 2) }
+// The byte of two digits, and whether they are spelled.
+fn hex_byte(high: u8, low: u8) -> (u8, bool)
+    ensures value { result.0 ≡ (16 * hex_value high + hex_value low) % 256 }
+    ensures spelled { result.1 ≡ (is_hex high && is_hex low) }
 {
-    let high = fields::u8_at(s, at + 2 * j);
-    let low = fields::u8_at(s, at + 2 * j + 1);
-    let byte = (16 * u32::from(hex_value(high)) + u32::from(hex_value(low))) % 256;
-    (byte as u8, is_hex(high) & is_hex(low))
+    let byte = hex_value(high)
+        .wrapping_mul(16)
+        .wrapping_add(hex_value(low));
+    (byte, is_hex(high) & is_hex(low))
 }
 
-fn identifier(s: &[u8], at: usize) -> ([u8; 16], bool)
-    requires { at ≤ 32768 }
-    ensures read { result.0 ≡ series (hex_byte s.now at) 0 16 }
-    ensures spelled { Told (hex_text result.0) s.now at result.1 (at + 32) }
+// Of all the digits at once: without a test of each place the loop becomes vector code.
+fn hex_bytes(digits: &[u8; 32]) -> ([u8; 16], bool)
+    ensures read { result.0 ≡ series (hex_byte digits.now 0) 0 16 }
+    ensures spelled { Told (hex_text result.0) digits.now 0 result.1 32 }
 {
     let mut bytes = [0u8; 16];
     let mut spelled = true;
     for j in 0..16usize {
-        let (byte, is_spelled) = hex_byte(s, at, j);
+        let (byte, is_spelled) = hex_byte(digits[2 * j], digits[2 * j + 1]);
         bytes[j] = byte;
         spelled = spelled & is_spelled;
     }
     (bytes, spelled)
+}
+
+// Where the form ends among the digits.
+#[cold]
+fn identifier_cut(s: &[u8], at: usize) -> [u8; 16]
+    ensures { result ≡ series (hex_byte s.now at) 0 16 }
+{
+    let (bytes, _) = hex_bytes(&fields::bytes_at::<32>(s, at));
+    bytes
+}
+
+fn identifier(s: &[u8], at: usize) -> ([u8; 16], bool)
+    ensures read { result.0 ≡ series (hex_byte s.now at) 0 16 }
+    ensures spelled { Told (hex_text result.0) s.now at result.1 (at + 32) }
+{
+    match fields::chunk_at::<32>(s, at) {
+        Some(digits) => hex_bytes(digits),
+        None => (identifier_cut(s, at), false),
+    }
 }
 
 fn identifier_line(s: &[u8], at: usize) -> ([u8; 16], bool)
@@ -150,13 +205,13 @@ fn date(s: &[u8], at: usize) -> (Minute, bool)
 }
 
 #[inline(always)]
-fn date_line(name: &[u8], s: &[u8], at: usize) -> (Minute, bool)
-    requires { (at ≤ 8192) × (length name.now ≤ 16) }
-    ensures read { result.0 ≡ date_at s.now (at + length name.now) }
-    ensures spelled { Told (date_line name.now result.0) s.now at result.1 (at + length name.now + 17) }
+fn date_line<const N: usize>(name: &[u8; N], s: &[u8], at: usize) -> (Minute, bool)
+    requires { (at ≤ 8192) × (N ≤ 16) }
+    ensures read { result.0 ≡ date_at s.now (at + N) }
+    ensures spelled { Told (date_line name.now result.0) s.now at result.1 (at + N + 17) }
 {
-    let (m, spelled) = date(s, at + name.len());
-    let stops = fields::u8_at(s, at + name.len() + 16) == b'\n';
+    let (m, spelled) = date(s, at + N);
+    let stops = fields::u8_at(s, at + N + 16) == b'\n';
     (m, stands(name, s, at) & (spelled & stops))
 }
 

@@ -1,29 +1,15 @@
-use Rattle.std.proofs.Common.{arith, ◌≡◌, ◌∙◌, ap, zero-add, sym, refl, length-set}
-use Rattle.form_reading.specs.Reading.{hex_byte}
-use Rattle.fields.proofs.Slices.{filled_none, filled_more, filled-all}
-use Rattle.form_reading.proofs.SpelledBytes.{bytes_none, bytes_more, bytes_all}
+use Rattle.std.proofs.Common.{arith, refl, ◌∙◌}
+use Rattle.std.proofs.lemmas.Bool.{false≢true}
+use Rattle.form_reading.proofs.SpelledBytes.{bytes_fetched, fetched_told, cut_told}
 use Rattle.form_reading.proofs.spelled.identifier.Goals as goal
 
-pub loop-j-init : goal.loop-j-init
-loop-j-init c = (refl, filled_none (hex_byte c.args.s.now c.args.at) 0, bytes_none c.args.s.now c.args.at)
+pub returns-in-Some-clause-read : goal.returns-in-Some-clause-read
+returns-in-Some-clause-read c = c.hex_bytes.ensures.read ∙ bytes_fetched c.args.s.now c.args.at c.in-Some.ensures.bytes 0 16 (omega arith)
 
-pub loop-j-preserved : goal.loop-j-preserved
-loop-j-preserved c =
-    let f = hex_byte c.args.s.now c.args.at in
-    let l = c.loop-j in
-    let byte = c.hex_byte-byte.ensures in (
-      length-set l.bytes l.j c.hex_byte-byte.result.0 ∙ l.invariant.0,
-      filled_more f l.bytes 0 l.j l.invariant.1 (omega arith) (byte.read ∙ ap f (sym (zero-add l.j))),
-      bytes_more l.invariant.2 byte.read byte.spelled,
-    )
+pub returns-in-Some-clause-spelled : goal.returns-in-Some-clause-spelled
+returns-in-Some-clause-spelled c =
+    let found = c.in-Some.ensures in
+    fetched_told found.bytes (found.there.0 refl) c.hex_bytes.ensures.read c.hex_bytes.ensures.spelled
 
-pub returns-clause-read : goal.returns-clause-read
-returns-clause-read c =
-    let all : c.loop-j.j ≡ 16 = omega arith in
-    filled-all _ _ 16 c.loop-j.invariant.0 (rw all at c.loop-j.invariant.1)
-
-pub returns-clause-spelled : goal.returns-clause-spelled
-returns-clause-spelled c =
-    let all : c.loop-j.j ≡ 16 = omega arith in
-    let read = filled-all _ _ 16 c.loop-j.invariant.0 (rw all at c.loop-j.invariant.1) in
-    rw read (bytes_all c.loop-j.invariant.2 all)
+pub returns-in-None-clause-spelled : goal.returns-in-None-clause-spelled
+returns-in-None-clause-spelled c = cut_told (λ l. false≢true (c.in-None.ensures.there.1 l)) c.identifier_cut.ensures

@@ -1,7 +1,12 @@
-use Rattle.std.proofs.Common.{arith}
-use Rattle.std.proofs.lemmas.Grind.{common_steps}
-use Rattle.form_reading.proofs.Standing.{stands_first}
+use Rattle.std.proofs.Common.{refl}
+use Rattle.std.proofs.lemmas.Bool.{false≢true}
+use Rattle.form_reading.proofs.Standing.{chunk_stands, chunk_missing}
 use Rattle.form_reading.proofs.spelled.stands.Goals as goal
 
-pub returns : goal.returns
-returns c = stands_first c.args.x.now c.args.s.now c.unwrap_or.result.now c.args.at (grind (arith, common_steps)) c.starts_with.ensures.value
+pub returns-in-Some : goal.returns-in-Some
+returns-in-Some g c =
+    let found = c.in-Some.ensures in
+    chunk_stands c.args.x.now c.args.s.now c.in-Some.chunk.now c.args.at g.row.N c.told-x found.bytes (found.there.0 refl) c.eq.ensures
+
+pub returns-in-None : goal.returns-in-None
+returns-in-None g c = chunk_missing c.args.x.now c.args.s.now c.args.at g.row.N c.told-x (λ l. false≢true (c.in-None.ensures.there.1 l))
