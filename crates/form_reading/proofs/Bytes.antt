@@ -11,7 +11,7 @@ use Rattle.fields.specs.Fields.{u16_at, u32_at, uint_at, bytes_of}
 use Rattle.fields.proofs.Bools.{and_left, and_right}
 use Rattle.fields.proofs.Numbers.{four_bytes}
 use Rattle.forms.specs.Form.{printable}
-use Rattle.form_reading.specs.Reading.{AreBytes}
+use Rattle.forms.specs.Form.{AreBytes}
 
 pub no_bytes : AreBytes []
 no_bytes i = omega arith

@@ -21,7 +21,7 @@ use Rattle.report.specs.Report.{report_mark, part_mark, text_mark, part_start, p
 use Rattle.report.specs.Encoded.{encode_head, encode_part, encode_parts, encode_report}
 use Rattle.report.proofs.Sizes.{whole-sized}
 use Rattle.forms.specs.Form.{text_of}
-use Rattle.form_reading.specs.Reading.{AreBytes}
+use Rattle.forms.specs.Form.{AreBytes}
 use Rattle.form_reading.proofs.Bytes.{four-small}
 
 -- one stretch after the other

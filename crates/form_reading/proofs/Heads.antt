@@ -12,7 +12,8 @@ use Rattle.forms.specs.Form.{code_lines, mark_lines, date_lines}
 use Rattle.form_reading.specs.declared.CodeLines.{CodeLines}
 use Rattle.form_reading.specs.declared.MarkLines.{MarkLines}
 use Rattle.form_reading.specs.declared.DateLines.{DateLines}
-use Rattle.form_reading.specs.Reading.{number_in, code_lines_in, mark_lines_in, date_lines_in, head_by, AreBytes}
+use Rattle.form_reading.specs.Reading.{number_in, code_lines_in, mark_lines_in, date_lines_in, head_by}
+use Rattle.forms.specs.Form.{AreBytes}
 use Rattle.form_reading.proofs.Values.{number-line, date-line, identifier-back, hex-length, value_there, line_past}
 
 -- a head whose fields fit their bytes, with an identifier of bytes and dates that are printed

@@ -16,7 +16,8 @@ use Rattle.report.specs.Report.{text_mark, most_parts, most_text, part_count_of,
 use Rattle.report.specs.Encoded.{encode_head, encode_part, encode_parts, encode_report}
 use Rattle.report.proofs.Encoding.{named}
 use Rattle.forms.specs.Form.{text_of, printable, has_form}
-use Rattle.form_reading.specs.Reading.{hex_byte, code_lines_in, mark_lines_in, point_count, parts_in, lines_in, grid_of, report_by, report_of, AreBytes}
+use Rattle.form_reading.specs.Reading.{hex_byte, code_lines_in, mark_lines_in, point_count, parts_in, lines_in, grid_of, report_by, report_of}
+use Rattle.forms.specs.Form.{AreBytes}
 use Rattle.form_reading.proofs.Reports.{printed}
 use Rattle.form_reading.proofs.Bytes.{no_bytes, byte_first, bytes_append, number_bytes, series_bytes, printed_bytes}
 

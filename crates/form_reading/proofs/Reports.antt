@@ -24,7 +24,7 @@ use Rattle.rules.specs.Records.{cover_by}
 use Rattle.rules.specs.Questions.{question8}
 use Rattle.forms.proofs.Formed.{formed}
 use Rattle.forms.specs.Form.{text_of, printable, has_form}
-use Rattle.form_reading.specs.Reading.{AreBytes}
+use Rattle.forms.specs.Form.{AreBytes}
 use Rattle.form_reading.proofs.Bytes.{series_bytes, two-small}
 use Rattle.form_reading.proofs.Covered.{Link, linked}
 use Rattle.form_reading.proofs.Heads.{InRange}

@@ -28,7 +28,8 @@ use Rattle.texts.specs.Numerals.{decimal, hex_digit}
 use Rattle.texts.proofs.Texts.{decimal-one, decimal-more}
 use Rattle.forms.specs.Values.{line, number_line, date_line, hex_text, signed_decimal}
 use Rattle.form_reading.specs.declared.Numeral.{Numeral}
-use Rattle.form_reading.specs.Reading.{is_digit, digits_at, number_at, number_in, power_at, hex_value, hex_byte, minute_or_0, date_at, AreBytes}
+use Rattle.form_reading.specs.Reading.{is_digit, digits_at, number_at, number_in, power_at, hex_value, hex_byte, minute_or_0, date_at}
+use Rattle.forms.specs.Form.{AreBytes}
 
 -- what stands at a place: the first byte, and what comes after a text
 pub first : (s : List ℕ) (at c : ℕ) (rest : List ℕ) → drop at s ≡ c ∷ rest → u8_at s at ≡ c

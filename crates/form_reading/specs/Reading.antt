@@ -1,7 +1,7 @@
 -- Paper 02, A4: the report of a form. The lines are taken in their order, as far as they say something, and what they give is the
 -- form's report if it has this form: a text that is written otherwise is the form of no report. `forms_are_read_back` says that this
 -- finds every form's report, so that nothing else here has to be believed.
-use Rattle.std.specs.Prelude.{ℕ, zero, suc, ◌+◌, ◌-◌, ◌*◌, ◌%◌, ◌<◌, min, Bool, not, ◌&&◌, List, length, leb, eqb, Result, Ok, Err}
+use Rattle.std.specs.Prelude.{ℕ, zero, suc, ◌+◌, ◌-◌, ◌*◌, ◌%◌, min, Bool, not, ◌&&◌, List, length, leb, eqb, Result, Ok, Err}
 use Rattle.std.specs.Int.{w32}
 use Rattle.std.proofs.Common.{to_z}
 use Rattle.fields.specs.Fields.{u8_at}
@@ -212,7 +212,3 @@ no_report = Err NotAForm
 -- "a form of no such report is 24"
 unfoldable pub form_read : List ℕ → Result (List ℕ) FormError
 form_read form = pick (is_form_of form (report_of form)) (Ok (report_of form)) no_report
-
--- what a slice of bytes holds
-abbrev pub AreBytes : List ℕ → Type 0
-AreBytes s = (i : ℕ) → u8_at s i < 256

@@ -1,7 +1,8 @@
 -- Paper 02, A4, "Reports written from a form": which reports have a form, and which form.
-use Rattle.std.specs.Prelude.{ℕ, ◌+◌, ◌-◌, ◌/◌, ◌%◌, ◌≤◌, ◌≡◌, Bool, true, ◌&&◌, List, [], ◌∷◌, ◌++◌, leb, eqb, length, is_ok}
+use Rattle.std.specs.Prelude.{ℕ, ◌+◌, ◌-◌, ◌/◌, ◌%◌, ◌≤◌, ◌<◌, ◌≡◌, Bool, true, ◌&&◌, List, [], ◌∷◌, ◌++◌, leb, eqb, length, is_ok}
 use Rattle.fields.specs.Lists.{pick, every, all, part}
 use Rattle.fields.specs.Ascii.{ascii}
+use Rattle.fields.specs.Fields.{u8_at}
 use Rattle.quantities.specs.declared.Minute.{Minute}
 use Rattle.report.specs.declared.Head.{Head}
 use Rattle.report.specs.declared.Part.{Part}
@@ -92,6 +93,10 @@ form_at step h ps text =
 -- the form of a report
 abbrev pub form_of : List ℕ → List ℕ
 form_of s = form_at (resolution_of (head_of s) (parts_of s)) (head_of s) (parts_of s) (text_of s)
+
+-- what a slice of bytes holds
+abbrev pub AreBytes : List ℕ → Type 0
+AreBytes s = (i : ℕ) → u8_at s i < 256
 
 -- the report has a form, and this is it
 pub record IsFormOf (form s : List ℕ) : Type 0 where
