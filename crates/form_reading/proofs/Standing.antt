@@ -98,15 +98,27 @@ pub chunk_stands : {r : Bool} (x s chunk : List ℕ) (at n : ℕ) → length x �
     → r ≡ same_list x chunk → r ≡ stands x s at
 chunk_stands x s chunk at n long same room e = e ∙ ap (same_list x) (same ∙ chunk-there s at n room) ∙ rw long refl
 
-pub stands_fetched : (x s bytes : List ℕ) (at n : ℕ) → bytes ≡ series (u8_at s) at n → n ≤ length s - at → length x ≤ n
-    → stands x bytes 0 ≡ stands x s at
+pub part_fetched : (s bytes : List ℕ) (at n : ℕ) → bytes ≡ series (u8_at s) at n → n ≤ length s - at → (i k : ℕ) → i + k ≤ n
+    → part bytes i k ≡ part s (at + i) k
 unfolding part
-stands_fetched x s bytes at n fetched room few =
+part_fetched s bytes at n fetched room i k few =
     let rest = drop n (drop at s) in
     let whole : bytes ≡ take n (drop at s) = fetched ∙ chunk-there s at n room in
     let long : length bytes ≡ n = ap length fetched ∙ series-length (u8_at s) at n in
     let split : drop at s ≡ bytes ++ rest = sym (take-append-drop n (drop at s)) ∙ ap (λ (l : List ℕ). l ++ rest) (sym whole) in
-    ap (same_list x) (sym (ap (take (length x)) split ∙ part-before bytes rest 0 (length x) (omega arith)))
+    sym (part-before bytes rest i k (omega (arith, few, long))) ∙ ap (λ (l : List ℕ). take k (drop i l)) (sym split)
+    ∙ ap (take k) (drop-drop i at s)
+
+pub stands_fetched : (x s bytes : List ℕ) (at n : ℕ) → bytes ≡ series (u8_at s) at n → n ≤ length s - at → length x ≤ n
+    → stands x bytes 0 ≡ stands x s at
+stands_fetched x s bytes at n fetched room few =
+    let z : at + 0 ≡ at = omega arith in
+    ap (same_list x) (rw z at (part_fetched s bytes at n fetched room 0 (length x) (omega arith)))
+
+pub told_fetched : {b : Bool} (x s bytes : List ℕ) (at n : ℕ) → bytes ≡ series (u8_at s) at n → n ≤ length s - at → length x ≡ n
+    → b ≡ stands x bytes 0 → Told x s at b (at + n)
+told_fetched x s bytes at n fetched room long told =
+    record { told = told ∙ stands_fetched x s bytes at n fetched room (omega (arith, long)); after = λ t. rw long refl }
 
 pub chunk_missing : (x s : List ℕ) (at n : ℕ) → length x ≡ n → (n ≤ length s - at → ⊥) → false ≡ stands x s at
 chunk_missing x s at n long out =

@@ -248,11 +248,12 @@ fn date_line<const N: usize>(name: &[u8; N], s: &[u8], at: usize) -> (Minute, bo
 }
 
 #[tactic(auto, unfolding(crate::specs::Reading::date_lines_in))]
-pub(crate) fn date_lines(s: &[u8], at: usize) -> (DateLines, bool)
+#[inline(always)]
+fn date_lines_at(s: &[u8], at: usize) -> (DateLines, bool)
     requires { at ≤ 221 }
     ensures read { result.0 ≡ date_lines_in s.now at }
     ensures spelled { Told (date_text result.0) s.now at result.1 result.0.next }
-    ensures bounds { result.0.next ≤ 288 }
+    ensures bounds { result.0.next ≤ at + 67 }
 {
     let (stamp, a) = date_line(b"stamp=", s, at);
     let (start, b) = date_line(b"start=", s, at + 23);
@@ -264,4 +265,36 @@ pub(crate) fn date_lines(s: &[u8], at: usize) -> (DateLines, bool)
         next: at + 67,
     };
     (lines, a & b & c)
+}
+
+// Where the form ends among the lines.
+#[cold]
+fn date_lines_cut(s: &[u8], at: usize) -> (DateLines, bool)
+    requires { at ≤ 221 }
+    ensures read { result.0 ≡ date_lines_in s.now at }
+    ensures spelled { Told (date_text result.0) s.now at result.1 result.0.next }
+    ensures bounds { result.0.next ≤ at + 67 }
+{
+    date_lines_at(s, at)
+}
+
+// The three lines are 67 bytes long. Those are fetched at once, so that the places in them need no test.
+pub(crate) fn date_lines(s: &[u8], at: usize) -> (DateLines, bool)
+    requires { at ≤ 221 }
+    ensures read { result.0 ≡ date_lines_in s.now at }
+    ensures spelled { Told (date_text result.0) s.now at result.1 result.0.next }
+    ensures bounds { result.0.next ≤ 288 }
+{
+    match fields::chunk_at::<67>(s, at) {
+        Some(fetched) => {
+            let (lines, spelled) = date_lines_at(fetched, 0);
+            let moved = DateLines {
+                stamp: lines.stamp,
+                period: lines.period,
+                next: at + 67,
+            };
+            (moved, spelled)
+        }
+        None => date_lines_cut(s, at),
+    }
 }
