@@ -15,6 +15,7 @@ pub mod Decoded
 pub mod Standing
 pub mod FormRead
 pub mod OwnForm
+pub mod Words
 pub mod PlainDigits
 pub mod SpelledNumbers
 pub mod SpelledDigits

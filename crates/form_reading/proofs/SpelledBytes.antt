@@ -8,10 +8,9 @@ use native.Mathlib.Omega.{arith}
 use native.Mathlib.Nat.{zero-add}
 use lib.Dec.{leb}
 use lib.ListN.{length, drop}
-use lib.Seq.{take_all}
 use borrow.Author.Tests.{lt-leb, le-leb, lt-ltb, le-ltb}
 use Rattle.fields.specs.Fields.{u8_at}
-use Rattle.fields.specs.Lists.{pick, part, series, same_list}
+use Rattle.fields.specs.Lists.{pick, series}
 use Rattle.fields.proofs.Bools.{and_left, and_right, and_both, both_ways, or_cases, range-true, range-intro, lt-or-le}
 use Rattle.fields.proofs.Slices.{series-snoc}
 use Rattle.fields.proofs.Tests.{series-at, series-length}
@@ -20,7 +19,7 @@ use Rattle.forms.specs.Values.{hex_text}
 use Rattle.form_reading.specs.Reading.{is_digit, hex_value, hex_byte}
 use Rattle.form_reading.specs.Spelled.{stands, is_hex, Told}
 use Rattle.form_reading.proofs.Values.{first, past, hex-length}
-use Rattle.form_reading.proofs.Standing.{byte_there, stands-there, there-stands, told_then, chunk-there, chunk_missing}
+use Rattle.form_reading.proofs.Standing.{byte_there, stands-there, there-stands, told_then, told_fetched, chunk_missing}
 
 -- a digit and its value
 record Digit (c : ℕ) : Type 0 where
@@ -133,14 +132,8 @@ module _ (s : List ℕ) (at : ℕ) {d : List ℕ} (fetched : d ≡ series (u8_at
 
 pub fetched_told : {d s bytes : List ℕ} {at : ℕ} {b : Bool} → d ≡ series (u8_at s) at 32 → 32 ≤ length s - at
     → bytes ≡ series (hex_byte d 0) 0 16 → Told (hex_text bytes) d 0 b 32 → Told (hex_text bytes) s at b (at + 32)
-unfolding part
 fetched_told {d} {s} {bytes} {at} fetched room read told =
-    let x = hex_text bytes in
-    let long : length x ≡ 32 = hex-length bytes ∙ rw (read, series-length (hex_byte d 0) 0 16) refl in
-    let few : length d ≡ 32 = ap length fetched ∙ series-length (u8_at s) at 32 in
-    let same : part d 0 (length x) ≡ part s at (length x) =
-    rw long (take_all 32 d (omega (arith, few)) ∙ fetched ∙ chunk-there s at 32 room) in
-    record { told = told.told ∙ ap (same_list x) same; after = λ t. rw long refl }
+    told_fetched (hex_text bytes) s d at 32 fetched room (hex-length bytes ∙ rw (read, series-length (hex_byte d 0) 0 16) refl) told.told
 
 pub cut_told : {s bytes : List ℕ} {at : ℕ} → (32 ≤ length s - at → ⊥) → bytes ≡ series (hex_byte s at) 0 16
     → Told (hex_text bytes) s at false (at + 32)

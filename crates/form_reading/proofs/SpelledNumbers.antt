@@ -6,19 +6,20 @@ use mathlib.Core.List.{List, [], ◌∷◌, ◌++◌, append_assoc}
 use native.Mathlib.Omega.{arith}
 use native.Mathlib.Nat.{mod-lt, mod-eq_of_lt}
 use lib.Dec.{eqb, ltb}
-use lib.ListN.{length, get_or, drop, length-append}
+use lib.ListN.{length, drop, length-append}
 use borrow.Author.Tests.{eqb-true, eq-eqb, ltb-true, lt-ltb}
 use Rattle.fields.specs.Fields.{u8_at}
 use Rattle.fields.specs.Lists.{series}
 use Rattle.fields.proofs.Bools.{and_left, and_right, and_both, both_ways, range-true}
+use Rattle.fields.proofs.Tests.{series-at}
 use Rattle.texts.specs.Numerals.{decimal}
 use Rattle.texts.proofs.Texts.{decimal-one}
 use Rattle.forms.specs.Values.{line}
 use Rattle.form_reading.specs.declared.Numeral.{Numeral}
-use Rattle.form_reading.specs.Reading.{is_digit, number_at, number_past}
+use Rattle.form_reading.specs.Reading.{is_digit, number_at, number_past, number_in}
 use Rattle.form_reading.specs.Spelled.{stands, is_plain, Told}
 use Rattle.form_reading.proofs.Values.{number-back}
-use Rattle.form_reading.proofs.Standing.{byte_there, stands-there, there-stands, name_told, told_then}
+use Rattle.form_reading.proofs.Standing.{byte_there, stands-there, there-stands, name_told, told_then, stands_fetched}
 use Rattle.form_reading.proofs.PlainDigits.{one_digit, plain-there, there-plain, there-stops}
 
 module _ (s : List ℕ) (at limit : ℕ) (some : 1 ≤ limit) (most : limit ≤ 65536) where
@@ -90,9 +91,9 @@ pub digits_told : {p : Bool} {m : Numeral} {c d : ℕ} (s : List ℕ) (at limit 
 digits_told s at limit some most read here plain stop = rw (stop, plain, here, read) (tests-told s at limit some most)
 
 -- a number of one digit
-pub record OneDigit (s : List ℕ) (at limit n : ℕ) : Type 0 where
-  pub read : record { value = n; next = at + 2 } ≡ number_past s at
-  pub told : Told (decimal (n % limit) ++ (10 ∷ [])) s at true (at + 2)
+record OneDigit (s : List ℕ) (at limit n : ℕ) : Type 0 where
+  read : record { value = n; next = at + 2 } ≡ number_past s at
+  told : Told (decimal (n % limit) ++ (10 ∷ [])) s at true (at + 2)
 
 one_there : (s : List ℕ) (at limit c : ℕ) → 10 ≤ limit → c ≡ u8_at s at → is_digit c ≡ true → u8_at s (at + 1) ≡ 10
     → OneDigit s at limit (c - 48)
@@ -109,17 +110,33 @@ one_there s at limit c some here d feed =
           record { told = sym (there-stands (c ∷ 10 ∷ []) s (drop (at + 1 + 1) s) at there); after = λ t. refl };
     }
 
-pub one_told : {n : ℕ} {r : Bool} (s pair : List ℕ) (at limit : ℕ) → 10 ≤ limit → pair ≡ series (u8_at s) at 2
-    → r ≡ is_digit (get_or pair 0 0) → (r && eqb (get_or pair 1 0) 10) ≡ true → n ≡ get_or pair 0 0 - 48 → OneDigit s at limit n
-unfolding series
-one_told {r = r} s pair at limit some fetched asked tests value =
-    let feed = eqb-true (get_or pair 1 0) 10 (and_right r (eqb (get_or pair 1 0) 10) tests) in
-    rw value
-    (one_there s at limit (get_or pair 0 0) some (ap (λ (l : List ℕ). get_or l 0 0) fetched)
-    (sym asked ∙ and_left r (eqb (get_or pair 1 0) 10) tests) (sym (ap (λ (l : List ℕ). get_or l 1 0) fetched) ∙ feed))
-
 -- a line is told by its name and what comes after that
 pub named_told : {a b : Bool} {next : ℕ} (name value s : List ℕ) (at : ℕ) → a ≡ stands name s at
     → Told (value ++ (10 ∷ [])) s (at + length name) b next → Told (line name value) s at (a && b) next
 unfolding line
 named_told name value s at a q = told_then (name_told a) q
+
+-- and its line, among sixteen bytes that were fetched
+pub record OneDigitLine (name s : List ℕ) (at limit n v : ℕ) : Type 0 where
+  pub read : record { value = v; next = at + n + 2 } ≡ number_in n s at
+  pub told : Told (line name (decimal (v % limit))) s at true (at + n + 2)
+
+pub line_of_digit : {v : ℕ} (name s bytes : List ℕ) (at limit n : ℕ) → length name ≡ n → n ≤ 14 → 10 ≤ limit
+    → bytes ≡ series (u8_at s) at 16 → 16 ≤ length s - at
+    → (stands name bytes 0 && is_digit (u8_at bytes n) && eqb (u8_at bytes (n + 1)) 10) ≡ true → v ≡ u8_at bytes n - 48
+    → OneDigitLine name s at limit n v
+line_of_digit name s bytes at limit n long most some fetched room tests value =
+    let a = stands name bytes 0 in
+    let b = is_digit (u8_at bytes n) in
+    let c = eqb (u8_at bytes (n + 1)) 10 in
+    let ab = and_left (a && b) c tests in
+    let digit : u8_at bytes n ≡ u8_at s (at + n) = rw fetched (series-at (u8_at s) at 16 n 0 (omega arith)) in
+    let next : at + (n + 1) ≡ at + n + 1 = omega arith in
+    let feed : u8_at bytes (n + 1) ≡ u8_at s (at + n + 1) = rw (fetched, ← next) (series-at (u8_at s) at 16 (n + 1) 0 (omega arith)) in
+    let one = one_there s (at + n) limit (u8_at bytes n) some digit (and_right a b ab)
+    (sym feed ∙ eqb-true (u8_at bytes (n + 1)) 10 (and_right (a && b) c tests)) in
+    let named = stands_fetched name s bytes at 16 fetched room (omega (arith, long)) in
+    let known : true ≡ stands name s at = sym (and_left a b ab) ∙ named in
+    let value-text = decimal ((u8_at bytes n - 48) % limit) in
+    let placed : Told (value-text ++ (10 ∷ [])) s (at + length name) true (at + n + 2) = rw long one.told in
+    rw value record { read = one.read; told = named_told name value-text s at known placed }

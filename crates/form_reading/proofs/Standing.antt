@@ -10,14 +10,14 @@ use Rattle.fields.specs.Fields.{u8_at}
 use mathlib.Core.List.{List, [], ◌∷◌, ◌++◌, append_assoc}
 use native.Mathlib.Omega.{arith}
 use lib.Dec.{eqb}
-use lib.ListN.{length, drop, length-append, length-drop, take-append-drop}
-use lib.Pointwise.{pointwise}
+use lib.ListN.{length, take, drop, length-append, length-drop, take-append-drop}
 use lib.Seq.{drop-drop, take_at, take_all}
 use borrow.Author.Tests.{eqb-true, eq-eqb}
 use Rattle.fields.specs.Lists.{part, same_list, series}
 use Rattle.fields.proofs.Rests.{series-taken}
 use Rattle.fields.proofs.Bools.{and_left, and_right, and_both, both_ways, lt-or-le}
-use Rattle.fields.proofs.Tests.{same-list-true, same-list-self}
+use Rattle.fields.proofs.Slices.{part-before}
+use Rattle.fields.proofs.Tests.{series-length, same-list-true, same-list-self}
 use Rattle.forms.specs.Values.{line}
 use Rattle.form_reading.specs.Spelled.{stands, Told}
 use Rattle.form_reading.proofs.Values.{first, past}
@@ -89,22 +89,36 @@ told_then {x} {y} {s} {at} {mid} {next} {a} {b} p q =
     }
 
 -- what a chunk of bytes holds
-same-pointwise : (a b : List ℕ) → pointwise eqb a b ≡ same_list a b
-unfolding same_list
-same-pointwise [] [] = refl
-same-pointwise [] (y ∷ ys) = refl
-same-pointwise (x ∷ xs) [] = refl
-same-pointwise (x ∷ xs) (y ∷ ys) = ap (λ (t : Bool). eqb x y && t) (same-pointwise xs ys)
-
 pub chunk-there : (s : List ℕ) (at n : ℕ) → n ≤ length s - at → series (u8_at s) at n ≡ part s at n
 unfolding series part
 chunk-there s at zero l = refl
 chunk-there s at (suc n) l = series-taken s at (suc n) (omega arith)
 
 pub chunk_stands : {r : Bool} (x s chunk : List ℕ) (at n : ℕ) → length x ≡ n → chunk ≡ series (u8_at s) at n → n ≤ length s - at
-    → r ≡ pointwise eqb x chunk → r ≡ stands x s at
-chunk_stands x s chunk at n long same room e =
-    e ∙ same-pointwise x chunk ∙ ap (same_list x) (same ∙ chunk-there s at n room) ∙ rw long refl
+    → r ≡ same_list x chunk → r ≡ stands x s at
+chunk_stands x s chunk at n long same room e = e ∙ ap (same_list x) (same ∙ chunk-there s at n room) ∙ rw long refl
+
+pub part_fetched : (s bytes : List ℕ) (at n : ℕ) → bytes ≡ series (u8_at s) at n → n ≤ length s - at → (i k : ℕ) → i + k ≤ n
+    → part bytes i k ≡ part s (at + i) k
+unfolding part
+part_fetched s bytes at n fetched room i k few =
+    let rest = drop n (drop at s) in
+    let whole : bytes ≡ take n (drop at s) = fetched ∙ chunk-there s at n room in
+    let long : length bytes ≡ n = ap length fetched ∙ series-length (u8_at s) at n in
+    let split : drop at s ≡ bytes ++ rest = sym (take-append-drop n (drop at s)) ∙ ap (λ (l : List ℕ). l ++ rest) (sym whole) in
+    sym (part-before bytes rest i k (omega (arith, few, long))) ∙ ap (λ (l : List ℕ). take k (drop i l)) (sym split)
+    ∙ ap (take k) (drop-drop i at s)
+
+pub stands_fetched : (x s bytes : List ℕ) (at n : ℕ) → bytes ≡ series (u8_at s) at n → n ≤ length s - at → length x ≤ n
+    → stands x bytes 0 ≡ stands x s at
+stands_fetched x s bytes at n fetched room few =
+    let z : at + 0 ≡ at = omega arith in
+    ap (same_list x) (rw z at (part_fetched s bytes at n fetched room 0 (length x) (omega arith)))
+
+pub told_fetched : {b : Bool} (x s bytes : List ℕ) (at n : ℕ) → bytes ≡ series (u8_at s) at n → n ≤ length s - at → length x ≡ n
+    → b ≡ stands x bytes 0 → Told x s at b (at + n)
+told_fetched x s bytes at n fetched room long told =
+    record { told = told ∙ stands_fetched x s bytes at n fetched room (omega (arith, long)); after = λ t. rw long refl }
 
 pub chunk_missing : (x s : List ℕ) (at n : ℕ) → length x ≡ n → (n ≤ length s - at → ⊥) → false ≡ stands x s at
 chunk_missing x s at n long out =

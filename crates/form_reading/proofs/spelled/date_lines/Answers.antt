@@ -1,11 +1,18 @@
-use Rattle.std.proofs.Common.{arith, ◌≡◌, ◌+◌}
-use Rattle.form_reading.proofs.Standing.{told_then}
+use Rattle.std.proofs.Common.{refl}
+use Rattle.form_reading.specs.Spelled.{date_text}
+use Rattle.form_reading.proofs.Standing.{told_fetched}
+use Rattle.form_reading.proofs.SpelledDates.{dates_length, dates_fetched}
 use Rattle.form_reading.proofs.spelled.date_lines.Goals as goal
 
-pub returns-clause-spelled : goal.returns-clause-spelled
-returns-clause-spelled c =
-    let start : c.args.at + 6 + 17 ≡ c.args.at + 23 = omega arith in
-    let end : c.args.at + 23 + 6 + 17 ≡ c.args.at + 46 = omega arith in
-    let next : c.args.at + 46 + 4 + 17 ≡ c.args.at + 67 = omega arith in
-    rw next at
-    (told_then (told_then (rw start at c.date_line-a.ensures.spelled) (rw end at c.date_line-b.ensures.spelled)) c.date_line-c.ensures.spelled)
+pub returns-in-Some-clause-read : goal.returns-in-Some-clause-read
+returns-in-Some-clause-read c =
+    let found = c.in-Some.ensures in
+    dates_fetched c.args.s.now c.in-Some.fetched.now c.args.at found.bytes (found.there.0 refl) c.date_lines_at-spelled.ensures.read
+
+pub returns-in-Some-clause-spelled : goal.returns-in-Some-clause-spelled
+returns-in-Some-clause-spelled c =
+    let found = c.in-Some.ensures in
+    let lines = c.date_lines_at-spelled in
+    let m = lines.result.0 in
+    told_fetched (date_text m) c.args.s.now c.in-Some.fetched.now c.args.at 67 found.bytes (found.there.0 refl)
+    (dates_length m.stamp m.period.start m.period.end) lines.ensures.spelled.told
