@@ -7,7 +7,7 @@ use mathlib.Core.Logic.{⊎_elim}
 use native.Mathlib.Omega.{arith}
 use native.Mathlib.Nat.{zero-add}
 use lib.Dec.{leb}
-use lib.ListN.{length, drop}
+use lib.ListN.{length, drop, length-append}
 use borrow.Author.Tests.{lt-leb, le-leb, lt-ltb, le-ltb}
 use Rattle.fields.specs.Fields.{u8_at}
 use Rattle.fields.specs.Lists.{pick, series}
@@ -15,7 +15,8 @@ use Rattle.fields.proofs.Bools.{and_left, and_right, and_both, both_ways, or_cas
 use Rattle.fields.proofs.Slices.{series-snoc}
 use Rattle.fields.proofs.Tests.{series-at, series-length}
 use Rattle.texts.specs.Numerals.{hex_digit}
-use Rattle.forms.specs.Values.{hex_text}
+use Rattle.fields.specs.Ascii.{ascii}
+use Rattle.forms.specs.Values.{line, hex_text}
 use Rattle.form_reading.specs.Reading.{is_digit, hex_value, hex_byte}
 use Rattle.form_reading.specs.Spelled.{stands, is_hex, Told}
 use Rattle.form_reading.proofs.Values.{first, past, hex-length}
@@ -117,18 +118,27 @@ pub bytes_all : {s : List ℕ} {at j : ℕ} {a : Bool} → BytesTold s at j a �
 bytes_all p e = rw e at p.told
 
 -- digits that were fetched are those that stand there
-module _ (s : List ℕ) (at : ℕ) {d : List ℕ} (fetched : d ≡ series (u8_at s) at 32) where
-  digit-there : (k : ℕ) → k < 32 → u8_at d k ≡ u8_at s (at + k)
-  digit-there k l = rw fetched (series-at (u8_at s) at 32 k 0 l)
+module _ (s : List ℕ) (at n k place : ℕ) {d : List ℕ} (fetched : d ≡ series (u8_at s) at n) (same : at + k ≡ place) where
+  digit-there : (j : ℕ) → k + j < n → u8_at d (k + j) ≡ u8_at s (place + j)
+  digit-there j l =
+      let there : at + (k + j) ≡ place + j = omega (arith, same) in
+      rw (fetched, ← there) (series-at (u8_at s) at n (k + j) 0 l)
 
-  pub bytes_fetched : (i n : ℕ) → i + n ≤ 16 → series (hex_byte d 0) i n ≡ series (hex_byte s at) i n
+  pub bytes_fetched : (i m : ℕ) → k + 2 * (i + m) ≤ n → series (hex_byte d k) i m ≡ series (hex_byte s place) i m
   unfolding series
   bytes_fetched i zero most = refl
-  bytes_fetched i (suc n) most =
-      let high : u8_at d (0 + 2 * i) ≡ u8_at s (at + 2 * i) = ap (u8_at d) (omega arith) ∙ digit-there (2 * i) (omega arith) in
-      let low : u8_at d (0 + 2 * i + 1) ≡ u8_at s (at + 2 * i + 1) =
+  bytes_fetched i (suc m) most =
+      let high : u8_at d (k + 2 * i) ≡ u8_at s (place + 2 * i) = digit-there (2 * i) (omega arith) in
+      let low : u8_at d (k + 2 * i + 1) ≡ u8_at s (place + 2 * i + 1) =
       ap (u8_at d) (omega arith) ∙ digit-there (2 * i + 1) (omega arith) ∙ ap (u8_at s) (omega arith) in
-      rw (high, low, bytes_fetched (i + 1) n (omega arith)) refl
+      rw (high, low, bytes_fetched (i + 1) m (omega arith)) refl
+
+pub identifier_length : (s : List ℕ) (at : ℕ) → length (line (ascii "identifier=") (hex_text (series (hex_byte s at) 0 16))) ≡ 44
+unfolding line
+identifier_length s at =
+    let bytes = series (hex_byte s at) 0 16 in
+    let long : length (hex_text bytes) ≡ 32 = hex-length bytes ∙ rw (series-length (hex_byte s at) 0 16) refl in
+    omega (arith, length-append (hex_text bytes) (10 ∷ []), long)
 
 pub fetched_told : {d s bytes : List ℕ} {at : ℕ} {b : Bool} → d ≡ series (u8_at s) at 32 → 32 ≤ length s - at
     → bytes ≡ series (hex_byte d 0) 0 16 → Told (hex_text bytes) d 0 b 32 → Told (hex_text bytes) s at b (at + 32)

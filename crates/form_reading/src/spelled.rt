@@ -149,7 +149,7 @@ fn is_hex(c: u8) -> bool
 }
 
 // The byte of two digits, and whether they are spelled.
-fn hex_byte(high: u8, low: u8) -> (u8, bool)
+fn two_digits(high: u8, low: u8) -> (u8, bool)
     ensures value { result.0 ≡ (16 * hex_value high + hex_value low) % 256 }
     ensures spelled { result.1 ≡ (is_hex high && is_hex low) }
 {
@@ -168,7 +168,7 @@ fn hex_bytes(digits: &[u8; 32]) -> ([u8; 16], bool)
     let mut bytes = [0u8; 16];
     let mut spelled = true;
     for j in 0..16usize {
-        let (byte, is_spelled) = hex_byte(fetched[2 * j], fetched[2 * j + 1]);
+        let (byte, is_spelled) = two_digits(fetched[2 * j], fetched[2 * j + 1]);
         bytes[j] = byte;
         spelled = spelled & is_spelled;
     }
@@ -194,7 +194,8 @@ fn identifier(s: &[u8], at: usize) -> ([u8; 16], bool)
     }
 }
 
-fn identifier_line(s: &[u8], at: usize) -> ([u8; 16], bool)
+#[inline(always)]
+fn identifier_line_at(s: &[u8], at: usize) -> ([u8; 16], bool)
     requires { at ≤ 8192 }
     ensures read { result.0 ≡ series (hex_byte s.now (at + 11)) 0 16 }
     ensures spelled { Told (line (ascii "identifier=") (hex_text result.0)) s.now at result.1 (at + 44) }
@@ -202,6 +203,28 @@ fn identifier_line(s: &[u8], at: usize) -> ([u8; 16], bool)
     let (bytes, spelled) = identifier(s, at + 11);
     let stops = fields::u8_at(s, at + 11 + 32) == b'\n';
     (bytes, stands(b"identifier=", s, at) & (spelled & stops))
+}
+
+// Where the form ends in the line.
+#[cold]
+fn identifier_line_cut(s: &[u8], at: usize) -> ([u8; 16], bool)
+    requires { at ≤ 8192 }
+    ensures read { result.0 ≡ series (hex_byte s.now (at + 11)) 0 16 }
+    ensures spelled { Told (line (ascii "identifier=") (hex_text result.0)) s.now at result.1 (at + 44) }
+{
+    identifier_line_at(s, at)
+}
+
+// The line is 44 bytes long. Those are fetched at once, so that the places in them need no test.
+fn identifier_line(s: &[u8], at: usize) -> ([u8; 16], bool)
+    requires { at ≤ 8192 }
+    ensures read { result.0 ≡ series (hex_byte s.now (at + 11)) 0 16 }
+    ensures spelled { Told (line (ascii "identifier=") (hex_text result.0)) s.now at result.1 (at + 44) }
+{
+    match fields::chunk_at::<44>(s, at) {
+        Some(fetched) => identifier_line_at(fetched, 0),
+        None => identifier_line_cut(s, at),
+    }
 }
 
 #[tactic(auto, unfolding(crate::specs::Reading::mark_lines_in))]

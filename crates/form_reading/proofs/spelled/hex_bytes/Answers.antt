@@ -15,9 +15,9 @@ loop-j-preserved c =
     let l = c.loop-j in
     let high : u8_at s (2 * l.j) ≡ u8_at s (0 + 2 * l.j) = ap (u8_at s) (omega arith) in
     let low : u8_at s (2 * l.j + 1) ≡ u8_at s (0 + 2 * l.j + 1) = ap (u8_at s) (omega arith) in
-    let byte = c.hex_byte-byte.ensures in
-    let read : c.hex_byte-byte.result.0 ≡ f l.j = rw (high, low) at byte.value in (
-      length-set l.bytes l.j c.hex_byte-byte.result.0 ∙ l.invariant.0,
+    let byte = c.two_digits-byte.ensures in
+    let read : c.two_digits-byte.result.0 ≡ f l.j = rw (high, low) at byte.value in (
+      length-set l.bytes l.j c.two_digits-byte.result.0 ∙ l.invariant.0,
       filled_more f l.bytes 0 l.j l.invariant.1 (omega arith) (read ∙ ap f (sym (zero-add l.j))),
       bytes_more l.invariant.2 read (byte_told s (0 + 2 * l.j) high low byte.value byte.spelled),
     )

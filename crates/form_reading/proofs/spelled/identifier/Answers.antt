@@ -4,7 +4,7 @@ use Rattle.form_reading.proofs.SpelledBytes.{bytes_fetched, fetched_told, cut_to
 use Rattle.form_reading.proofs.spelled.identifier.Goals as goal
 
 pub returns-in-Some-clause-read : goal.returns-in-Some-clause-read
-returns-in-Some-clause-read c = c.hex_bytes.ensures.read ∙ bytes_fetched c.args.s.now c.args.at c.in-Some.ensures.bytes 0 16 (omega arith)
+returns-in-Some-clause-read c = c.hex_bytes.ensures.read ∙ bytes_fetched c.args.s.now c.args.at 32 0 c.args.at c.in-Some.ensures.bytes (omega arith) 0 16 (omega arith)
 
 pub returns-in-Some-clause-spelled : goal.returns-in-Some-clause-spelled
 returns-in-Some-clause-spelled c =

@@ -3,4 +3,4 @@ use Rattle.form_reading.proofs.SpelledBytes.{bytes_fetched}
 use Rattle.form_reading.proofs.spelled.identifier_cut.Goals as goal
 
 pub returns : goal.returns
-returns c = c.hex_bytes.ensures.read ∙ bytes_fetched c.args.s.now c.args.at c.bytes_at.ensures 0 16 (omega arith)
+returns c = c.hex_bytes.ensures.read ∙ bytes_fetched c.args.s.now c.args.at 32 0 c.args.at c.bytes_at.ensures (omega arith) 0 16 (omega arith)
