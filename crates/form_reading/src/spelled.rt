@@ -11,7 +11,6 @@ ghost use Rattle.form_reading.specs.Spelled.{stands, is_plain, is_hex, Told, cod
 
 use crate::{CodeLines, DateLines, MarkLines, Numeral, hex_value, number_at, part};
 use quantities::{Minute, Period};
-use std::simd::prelude::*;
 
 #[inline(always)]
 fn same_8(a: &[u8], b: &[u8], at: usize) -> bool
@@ -159,16 +158,15 @@ fn two_digits(high: u8, low: u8) -> (u8, bool)
     (byte, is_hex(high) & is_hex(low))
 }
 
-// Without a test of each place the loop becomes vector code. Taken as a vector first, the digits cost 3 ns less.
+// Without a test of each place the loop becomes vector code.
 fn hex_bytes(digits: &[u8; 32]) -> ([u8; 16], bool)
     ensures read { result.0 ≡ series (hex_byte digits.now 0) 0 16 }
     ensures spelled { Told (hex_text result.0) digits.now 0 result.1 32 }
 {
-    let fetched = u8x32::from_array(*digits).to_array();
     let mut bytes = [0u8; 16];
     let mut spelled = true;
     for j in 0..16usize {
-        let (byte, is_spelled) = two_digits(fetched[2 * j], fetched[2 * j + 1]);
+        let (byte, is_spelled) = two_digits(digits[2 * j], digits[2 * j + 1]);
         bytes[j] = byte;
         spelled = spelled & is_spelled;
     }
