@@ -186,5 +186,5 @@ pub fn desk_read_form(form: &[u8], report: &mut [u8]) -> u64
     ensures value { result ≡ packed_length (length_given (form_read form.now) report.old) }
     ensures report_after { report.new ≡ buffer_after (form_read form.now) report.old }
 {
-    packed_length(form_reading::read_form(form, report))
+    packed_length(form_reader::read_form(form, report))
 }

@@ -1,4 +1,1 @@
 pub mod Reading
-pub mod Spelled
-pub mod SpelledForm
-pub mod SpelledPoint

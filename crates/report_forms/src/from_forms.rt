@@ -125,7 +125,7 @@ fn end_line<R: Print, E: Print>(out: &R, err: &E, collected: &mut Collected) -> 
 fn answer<R: Print, E: Print>(out: &R, err: &E, collected: &Collected) -> io::Result<()> {
     let form = &collected.bytes[..collected.length];
     let mut report = [0u8; LONGEST];
-    match form_reading::read_form(form, &mut report) {
+    match form_reader::read_form(form, &mut report) {
         Ok(length) => out.write_all(&report[..length]),
         Err(_) => {
             hints::tell_form(err, collected);

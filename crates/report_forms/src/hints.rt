@@ -134,7 +134,7 @@ fn name_of(i: usize) -> &'static [u8] {
 // The first line that is another one in the form of the report that the lines give, if it has a form.
 fn put_difference(text: &mut Text, first_line: u64, form: &[u8]) {
     let mut scratch = [0u8; LONGEST];
-    let report = form_reading::report_in(form, &mut scratch);
+    let report = form_reader::report_in(form, &mut scratch);
     let mut right = [0u8; 3584];
     match forms::write_form(report, &mut right) {
         Ok(length) => put_right_line(text, first_line, form, &right[..length]),

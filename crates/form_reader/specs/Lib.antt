@@ -1,0 +1,3 @@
+pub mod Spelled
+pub mod SpelledForm
+pub mod SpelledPoint

@@ -1,5 +1,0 @@
-use Rattle.form_reading.proofs.Scanned.{Scanned}
-use Rattle.form_reading.proofs.number_at.Given as goal
-
-abbrev pub invariant-loop-j : goal.invariant-loop-j
-invariant-loop-j l = Scanned l.s l.at l.value l.j

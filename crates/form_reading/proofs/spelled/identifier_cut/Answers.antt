@@ -1,6 +1,0 @@
-use Rattle.std.proofs.Common.{arith, ◌∙◌}
-use Rattle.form_reading.proofs.SpelledBytes.{bytes_fetched}
-use Rattle.form_reading.proofs.spelled.identifier_cut.Goals as goal
-
-pub returns : goal.returns
-returns c = c.hex_bytes.ensures.read ∙ bytes_fetched c.args.s.now c.args.at 32 0 c.args.at c.bytes_at.ensures (omega arith) 0 16 (omega arith)

@@ -1,9 +1,0 @@
-use Rattle.form_reading.proofs.Standing.{told_then}
-use Rattle.form_reading.proofs.spelled.mark_lines.Goals as goal
-
-pub returns-clause-spelled : goal.returns-clause-spelled
-returns-clause-spelled c =
-    let four = told_then
-    (told_then (told_then c.number_line-a.ensures.spelled c.number_line-b.ensures.spelled) c.number_line-c.ensures.spelled)
-    c.number_line-d.ensures.spelled in
-    told_then four c.identifier_line-e.ensures.spelled

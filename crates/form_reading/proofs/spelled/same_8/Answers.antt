@@ -1,7 +1,0 @@
-use Rattle.form_reading.proofs.Words
-use Rattle.form_reading.proofs.spelled.same_8.Goals as goal
-
-pub returns : goal.returns
-returns c =
-    Words.same_8 c.args.a.now c.args.b.now c.args.at (λ i. (c.type_inv.a i).fits) (λ i. (c.type_inv.b i).fits) c.bytes_at.ensures c.bytes_at-2.ensures
-    c.from_le_bytes-word.ensures c.from_le_bytes.ensures

@@ -1,5 +1,0 @@
-use Rattle.form_reading.proofs.PartsPut.{PartsPut}
-use Rattle.form_reading.proofs.spelled_points.put_points.Given as goal
-
-abbrev pub invariant-loop-j : goal.invariant-loop-j
-invariant-loop-j l = PartsPut l.s l.grid l.at l.place l.j l.spelled l.point l.here l.fn.report l.report
