@@ -318,15 +318,13 @@ fn is_form_of(form: &[u8], lines: Lines, report: &[u8]) -> bool
     (lines.head.part_count == 0) | (u32::from(lines.step) == forms::resolution(report, lines.head))
 }
 
-// The report of a form at the start of a lent buffer, whose other bytes stay: its length, or 24, then 43.
-pub fn read_form(form: &[u8], report: &mut [u8]) -> Result<usize, FormError>
+// The report of a form whose head's lines are told already. Apart, so that a text that is left at its head clears no scratch.
+fn read_rest(form: &[u8], head: HeadLines, report: &mut [u8]) -> Result<usize, FormError>
+    requires { HeadTold form.now head }
     ensures value { result ≡ length_given (form_read form.now) report.old }
     ensures report_after { report.new ≡ buffer_after (form_read form.now) report.old }
     ensures bounds { IfOk result (λ n. (n ≤ length report.old) × (n ≤ 1850)) }
 {
-    let Some(head) = head_lines(form, false) else {
-        return Err(FormError::NotAForm);
-    };
     let mut scratch = [0u8; MOST_REPORT];
     let (lines, spelled, end) = put_report(form, head, &mut scratch);
     if !spelled {
@@ -337,4 +335,16 @@ pub fn read_form(form: &[u8], report: &mut [u8]) -> Result<usize, FormError>
         return Err(FormError::NotAForm);
     }
     forms::lay(found, report)
+}
+
+// The report of a form at the start of a lent buffer, whose other bytes stay: its length, or 24, then 43.
+pub fn read_form(form: &[u8], report: &mut [u8]) -> Result<usize, FormError>
+    ensures value { result ≡ length_given (form_read form.now) report.old }
+    ensures report_after { report.new ≡ buffer_after (form_read form.now) report.old }
+    ensures bounds { IfOk result (λ n. (n ≤ length report.old) × (n ≤ 1850)) }
+{
+    match head_lines(form, false) {
+        Some(head) => read_rest(form, head, report),
+        None => Err(FormError::NotAForm),
+    }
 }
