@@ -14,7 +14,7 @@
  *   own: calls on different registers may run at the same time, on one register only one after the other.
  * - Bytes need no alignment. Numbers in them are little-endian.
  * - A call ends. It allocates nothing, does no input or output and raises no signal; its stack is below 16 kB.
- * - A refusal leaves every byte of the register, and of a text that is lent to be written, as it was.
+ * - A refusal leaves every byte of the register, and of whatever else is lent to be written, as it was.
  */
 #ifndef LOYIFEKU_DESK_H
 #define LOYIFEKU_DESK_H
@@ -144,10 +144,10 @@ uint32_t desk_print_date(uint32_t minute, uint8_t *text, size_t text_length);
 uint64_t desk_write_form(const uint8_t *report, size_t report_length, uint8_t *form, size_t form_length);
 
 /*
- * Reads a form, which is the one that desk_write_form writes for a report, and writes that report into the first bytes of a report; the
- * bytes after them stay. No report is longer than DESK_LONGEST_REPORT.
+ * Reads a form, which is the one that desk_write_form writes for a report, and writes that report into the first of the bytes
+ * that are lent as `report`; those after them stay. No report is longer than DESK_LONGEST_REPORT.
  * Returns number + 2^32 * value: 0 and the report's length; 24 where the text is the form of no report; else 43 where the report has no
- * room. A refusal writes nothing.
+ * room. A refusal writes nothing. See desk_number_of and desk_value.
  */
 uint64_t desk_read_form(const uint8_t *form, size_t form_length, uint8_t *report, size_t report_length);
 

@@ -116,7 +116,7 @@ dates() {
 told_forms() {
   local lines=$1
   shift
-  "$@" > "$room/out" 2> "$room/err" < /dev/null
+  "$@" > "$room/out" 2> "$room/err"
   told "$*: status $? and not 1" [ $? -eq 1 ]
   told "$*: it said $(cat "$room/err")" diff "$room/err" <(printf '%s\n' "$lines")
 }
@@ -150,6 +150,9 @@ refused_forms() {
   local stop=$room/stop.form two=$room/two.forms line
   sed -n '/^unit=1$/,/^text=/p' docs/FORM.md | sed -n '1,16p' > "$stop"
   local refusal='report_forms: form 1, lines 1 to 16: 24,'
+  told_forms 'report_forms: form 1, lines 1 to 16: 24, its last line has no line feed' ./desk report - < <(printf %s "$(cat "$stop")")
+  told_forms 'report_forms: form 1, lines 1 to 5: 24, it ends before its line text=' ./desk report - < <(head -n 5 "$stop")
+  told_forms 'report_forms: report 1: 25, it is not whole (question 2)' ./desk form - < <(head -c 20 samples/evening.roster)
   while IFS='|' read -r edit line; do
     { sed "$edit" "$stop" && cat "$stop"; } > "$two"
     told_forms "$line" ./desk report "$two"
@@ -170,6 +173,7 @@ s/^operation=1/operation=3/|$refusal it has no parts, or may have none (question
 s/^point=1/point=2/|$refusal its parts do not cover its period, part 1 is wrong (question 8)
 s/^stamp=.*/stamp=2026-03-01 24:00/|$refusal line 11 has no date such as 2026-03-01 00:10
 s/^text=/text=\xc3\xa9/|$refusal its text is not printable ASCII
+s/^text=/&$(printf '%0201d' 0)/|$refusal line 16 has more than 200 characters
 END
 }
 

@@ -14,7 +14,8 @@ ghost use Rattle.forms.specs.Form.{text_of, has_form, all_fall, resolution_of, f
 ghost use Rattle.forms.specs.Lent.{length_given, buffer_after};
 ghost use Rattle.form_reading.specs.Reading.{number_at, hex_value, resolution_in, is_point};
 ghost use Rattle.form_reading.specs.Reading.{text_length_in, lines_in, head_by, minute_of, grid_of, parts_in, report_by, report_of};
-ghost use Rattle.form_reading.specs.Reading.{is_form_of, no_report, form_read};
+ghost use Rattle.form_reading.specs.Reading.{is_form_of, form_read};
+ghost use Rattle.forms.specs.Lent.{no_report};
 ghost use Rattle.forms.specs.Form.{AreBytes};
 ghost use Rattle.form_reader.specs.Spelled.{Told};
 ghost use Rattle.form_reader.specs.SpelledForm.{is_own_form, body_by, HeadTold};

@@ -15,7 +15,8 @@ use Rattle.forms.specs.declared.FormError.{FormError}
 use Rattle.forms.proofs.Formed.{Formed, formed}
 use Rattle.forms.proofs.Coarsest.{coarsest_of, resolution-range}
 use Rattle.forms.specs.Form.{text_of, has_form, all_fall, resolution_of, form_at, form_of, IsFormOf}
-use Rattle.form_reading.specs.Reading.{lines_in, report_of, is_form_of, no_report, form_read}
+use Rattle.form_reading.specs.Reading.{lines_in, report_of, is_form_of, form_read}
+use Rattle.forms.specs.Lent.{no_report}
 use Rattle.forms.specs.Form.{AreBytes}
 use Rattle.form_reading.proofs.PointLines.{Points}
 use Rattle.form_reading.proofs.Bytes.{four-small}

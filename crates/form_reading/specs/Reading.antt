@@ -14,7 +14,7 @@ use Rattle.report.specs.declared.Part.{Part}
 use Rattle.report.specs.Report.{most_parts, most_text}
 use Rattle.report.specs.Encoded.{encode_report}
 use Rattle.forms.specs.declared.FormError.{FormError}
-use Rattle.forms.specs.declared.FormError.TheVariants.{NotAForm}
+use Rattle.forms.specs.Lent.{no_report}
 use Rattle.forms.specs.Form.{has_form, form_of}
 use Rattle.form_reading.specs.declared.Numeral.{Numeral}
 use Rattle.form_reading.specs.declared.CodeLines.{CodeLines}
@@ -205,9 +205,6 @@ report_of form = report_by form (lines_in form)
 
 abbrev pub is_form_of : List ℕ → List ℕ → Bool
 is_form_of form report = has_form report && same_list (form_of report) form
-
-abbrev pub no_report : Result (List ℕ) FormError
-no_report = Err NotAForm
 
 -- "a form of no such report is 24"
 unfoldable pub form_read : List ℕ → Result (List ℕ) FormError

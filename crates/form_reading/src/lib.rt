@@ -5,7 +5,8 @@
 ghost use Rattle.std.specs.Prelude.{◌≡◌, ℕ, ◌≤◌, true, List, length, Ok};
 ghost use Rattle.report.specs.Report.{head_of, parts_of};
 ghost use Rattle.forms.specs.Form.{text_of, has_form, all_fall, resolution_of, form_at, form_of, AreBytes, IsFormOf};
-ghost use Rattle.form_reading.specs.Reading.{no_report, form_read};
+ghost use Rattle.form_reading.specs.Reading.{form_read};
+ghost use Rattle.forms.specs.Lent.{no_report};
 
 use quantities::{Minute, Period, SignedKilowatt};
 use report::Head;
@@ -80,8 +81,8 @@ pub fn forms_are_read_back()
     ensures only { (form : List ℕ) → form_read form ≡ no_report → (s : List ℕ) → AreBytes s → IsFormOf form s → ⊥ }
 {}
 
-// This does nothing: its contract is that "a form at a finer one is 24". A report with parts, written at any other resolution on which
-// all of it falls, is not read.
+// This does nothing: its contract is that "a form at a finer one is 24". A report with parts, written with any other step up to
+// 1,440 on which all of it falls, is not read.
 #[tactic(auto, using(crate::proofs::Round::finer))]
 pub fn finer_forms_are_refused()
     ensures { (s : List ℕ) (step : ℕ) → AreBytes s → has_form s ≡ true → 1 ≤ length (parts_of s) → step ≤ 1440

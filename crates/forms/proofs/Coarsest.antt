@@ -10,7 +10,7 @@ use Rattle.fields.specs.Lists.{pick, all}
 use Rattle.fields.proofs.Bools.{and_both, pick-elim}
 use Rattle.report.specs.declared.Head.{Head}
 use Rattle.report.specs.declared.Part.{Part}
-use Rattle.forms.specs.Form.{after_start, falls, all_fall, resolution_of, Coarsest}
+use Rattle.forms.specs.Form.{after_start, falls, all_fall, resolution_of, Coarsest, is_resolution}
 
 -- on one minute all falls
 zero-left : (n : ℕ) → eqb (n % 1) 0 ≡ true
@@ -60,6 +60,14 @@ module _ (p : ℕ → Bool) where
       (λ a. pick-elim (λ (n : ℕ). 5 ≤ n) (p 60) (λ b. omega arith)
       (λ b. pick-elim (λ (n : ℕ). 5 ≤ n) (p 15) (λ c. omega arith) (λ c. omega arith))))
 
+  choice-one : is_resolution choice ≡ true
+  choice-one =
+      let P : ℕ → Type 0 = λ (n : ℕ). is_resolution n ≡ true in
+      pick-elim P (p 1440) (λ e. refl)
+      (λ e. pick-elim P (p 60) (λ e. refl)
+      (λ e. pick-elim P (p 15) (λ e. refl)
+      (λ e. pick-elim P (p 5) (λ e. refl) (λ e. refl))))
+
   -- no choice is below 1 or above 1,440
   choice-range : (1 ≤ choice) × (choice ≤ 1440)
   choice-range =
@@ -73,6 +81,7 @@ pub coarsest_of : (h : Head) (ps : List Part) → Coarsest h ps (resolution_of h
 unfolding resolution_of
 coarsest_of h ps =
     record {
+      one_of_five = choice-one (all_fall h ps);
       fits = choice-holds (all_fall h ps) (one-falls h ps);
       day = choice-1440 (all_fall h ps);
       hour = choice-60 (all_fall h ps);

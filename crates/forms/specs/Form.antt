@@ -1,5 +1,5 @@
 -- Paper 02, A4, "Reports written from a form": which reports have a form, and which form.
-use Rattle.std.specs.Prelude.{ℕ, ◌+◌, ◌-◌, ◌/◌, ◌%◌, ◌≤◌, ◌<◌, ◌≡◌, Bool, true, ◌&&◌, List, [], ◌∷◌, ◌++◌, leb, eqb, length, is_ok}
+use Rattle.std.specs.Prelude.{ℕ, ◌+◌, ◌-◌, ◌/◌, ◌%◌, ◌≤◌, ◌<◌, ◌≡◌, Bool, true, ◌&&◌, ◌||◌, List, [], ◌∷◌, ◌++◌, leb, eqb, length, is_ok}
 use Rattle.fields.specs.Lists.{pick, every, all, part}
 use Rattle.fields.specs.Ascii.{ascii}
 use Rattle.fields.specs.Fields.{u8_at}
@@ -68,7 +68,8 @@ resolution_of h ps =
     (pick (all_fall h ps 15) 15
     (pick (all_fall h ps 5) 5 1)))
 
--- "positions counted from 1 at the start"
+-- "positions counted from 1 at the start, the value holding until the next position given": where a part ends is not written, for by
+-- question 8 it is the next part's start, or the period's end
 abbrev pub position : Head → ℕ → Part → ℕ
 position h step p = after_start h p.period.start / step + 1
 
@@ -103,8 +104,13 @@ pub record IsFormOf (form s : List ℕ) : Type 0 where
   pub has : has_form s ≡ true
   pub same : form_of s ≡ form
 
--- what "the coarsest" says: all of it falls on this step, and each of the others on which all of it falls is as coarse or finer
+-- "a resolution of 1,440, 60, 15, 5 or 1 minutes"
+abbrev pub is_resolution : ℕ → Bool
+is_resolution step = eqb step 1440 || (eqb step 60 || (eqb step 15 || (eqb step 5 || eqb step 1)))
+
+-- what "the coarsest" says: all of it falls on this step, one of the five, and none of the five on which all of it falls is coarser
 pub record Coarsest (h : Head) (ps : List Part) (step : ℕ) : Type 0 where
+  pub one_of_five : is_resolution step ≡ true
   pub fits : all_fall h ps step ≡ true
   pub day : all_fall h ps 1440 ≡ true → 1440 ≤ step
   pub hour : all_fall h ps 60 ≡ true → 60 ≤ step

@@ -2,7 +2,7 @@
 use Rattle.std.specs.Prelude.{ℕ, Bool, List, leb, length, Result, Ok, Err}
 use Rattle.fields.specs.Lists.{pick, put}
 use Rattle.forms.specs.declared.FormError.{FormError}
-use Rattle.forms.specs.declared.FormError.TheVariants.{NoForm, NoRoom}
+use Rattle.forms.specs.declared.FormError.TheVariants.{NotAForm, NoForm, NoRoom}
 use Rattle.forms.specs.Form.{has_form, form_of}
 
 abbrev pub has_room : List ℕ → List ℕ → Bool
@@ -21,3 +21,7 @@ buffer_after (Err e) buffer = buffer
 -- "a report without a form is 25"
 unfoldable pub form_written : List ℕ → Result (List ℕ) FormError
 form_written report = pick (has_form report) (Ok (form_of report)) (Err NoForm)
+
+-- "a form of no such report is 24"
+abbrev pub no_report : Result (List ℕ) FormError
+no_report = Err NotAForm

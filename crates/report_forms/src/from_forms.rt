@@ -7,7 +7,7 @@ use report_input::LONGEST;
 use std::io;
 use std::io::{Print, Read};
 
-// One byte more than any form has, so that of a longer text is kept that it is longer.
+// One byte more than any form has: a longer text is kept as one that is too long.
 pub(crate) const ROOM: usize = 3585;
 
 // What was read of a form: its bytes, as far as there is room, the first five bytes of its last line and that line's length, as far as it is
@@ -50,13 +50,22 @@ impl Collected {
     }
 
     // The text's line is the last one.
-    fn is_complete(&self) -> bool {
+    pub(crate) fn is_complete(&self) -> bool {
         self.begins == *b"text="
     }
 
     // No line is there but an empty one.
     fn is_empty(&self) -> bool {
         self.length == 1
+    }
+
+    // The last line that something was read of.
+    pub(crate) fn last_line(&self) -> u64 {
+        if self.line_length == 0 {
+            self.line.saturating_sub(1)
+        } else {
+            self.line
+        }
     }
 
     fn next_line(&mut self) {

@@ -8,7 +8,7 @@ use report_input::{LONGEST, read_report};
 use std::io;
 use std::io::{Print, Read};
 
-// Passes over the entries of a roster; how many bytes are then there of the first report.
+// Passes over the entries of a roster; how many bytes are then there of the first report. One that is cut short is taken for a report.
 fn pass_roster<I: Read>(from: &mut I, report: &mut [u8; LONGEST]) -> io::Result<usize>
     ensures { IfOk result (λ got. got ≤ 2) }
 {
@@ -17,7 +17,10 @@ fn pass_roster<I: Read>(from: &mut I, report: &mut [u8; LONGEST]) -> io::Result<
         if !log_lines::entry_begins(&report[..got]) {
             return Ok(got);
         }
-        streams::read_full(from, &mut report[2..ENTRY_SIZE])?;
+        let rest = streams::read_full(from, &mut report[2..ENTRY_SIZE])?;
+        if rest < ENTRY_SIZE - 2 {
+            return Ok(got);
+        }
     }
     Ok(0)
 }

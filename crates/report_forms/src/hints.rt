@@ -28,9 +28,9 @@ pub(crate) fn tell_form<E: Print>(err: &E, form: &Collected) {
     text.put(b", lines ");
     text.put_decimal(form.first_line);
     text.put(b" to ");
-    text.put_decimal(form.line);
+    text.put_decimal(form.last_line());
     text.put(b": 24, ");
-    put_hint(&mut text, form.first_line, &form.bytes[..form.length]);
+    put_hint(&mut text, form);
     text.put(b"\n");
     let end = text.end();
     tell(err, &line, end);
@@ -75,15 +75,20 @@ fn last_reason(h: Head) -> &'static [u8] {
     }
 }
 
-fn put_hint(text: &mut Text, first_line: u64, form: &[u8]) {
-    if form.contains(&b'\r') {
+fn put_hint(text: &mut Text, form: &Collected) {
+    let bytes = &form.bytes[..form.length];
+    if bytes.contains(&b'\r') {
         text.put(b"it has a CR; a line ends in one line feed");
-    } else if let Some(line) = misnamed(form) {
-        put_line_number(text, first_line, line);
+    } else if let Some(line) = misnamed(bytes) {
+        put_line_number(text, form.first_line, line);
         text.put(b" has to begin with ");
         text.put(name_of(line));
+    } else if !form.is_complete() {
+        text.put(b"it ends before its line text=");
+    } else if bytes.last() != Some(&b'\n') {
+        text.put(b"its last line has no line feed");
     } else {
-        put_difference(text, first_line, form);
+        put_difference(text, form.first_line, bytes);
     }
 }
 
@@ -157,6 +162,9 @@ fn put_right_line(text: &mut Text, first_line: u64, form: &[u8], right: &[u8]) {
 
 fn put_line_of(text: &mut Text, line: usize, right: &[u8]) {
     match right.split_inclusive(|c: &u8| *c == b'\n').nth(line) {
+        Some(right_line) if right_line.len() == 206 => {
+            text.put(b" has more than 200 characters");
+        }
         Some(right_line) => {
             text.put(b" has to be ");
             text.put(right_line.strip_suffix(b"\n").unwrap_or(right_line));

@@ -39,7 +39,7 @@ fn lay_digits(digits: &mut [u8; 20], n: u64) -> usize
     at
 }
 
-// By hand, as `lay_digits` and for its reason. Of a number above 15 it is that letter's successor further on, as far as a byte goes.
+// By hand, as `lay_digits` and for its reason.
 #[tactic(auto, unfolding(fields::specs::Lists::pick))]
 fn hex_digit(n: u8) -> u8
     requires { n < 16 }
