@@ -1,3 +1,4 @@
 pub mod Putting
 pub mod Formed
 pub mod Coarsest
+pub mod FormCases

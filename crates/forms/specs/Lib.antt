@@ -3,3 +3,4 @@ pub mod Form
 pub mod Tails
 pub mod Lent
 pub mod Refusals
+pub mod FormCases

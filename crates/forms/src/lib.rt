@@ -17,6 +17,8 @@ ghost use Rattle.forms.specs.Form.{position, point_line, point_lines, part_lines
 ghost use Rattle.forms.specs.Tails.{has_place, Prepends};
 ghost use Rattle.forms.specs.Lent.{length_given, buffer_after, form_written};
 ghost use Rattle.forms.specs.Refusals.{number_of};
+ghost use Rattle.rules.specs.Boundaries.Tests.{failing};
+ghost use Rattle.forms.specs.FormCases.{AreWritten, formed, resolutions, RoomIsAsked};
 
 use quantities::{Minute, SignedKilowatt};
 use report::{Head, Part};
@@ -409,4 +411,14 @@ pub fn write_form(report: &[u8], form: &mut [u8]) -> Result<usize, FormError>
 // This does nothing: its contract is the law that the writer picks the coarsest resolution.
 pub fn resolution_is_the_coarsest()
     ensures { (h : Head) (ps : List Part) → Coarsest h ps (resolution_of h ps) }
+{}
+
+// This does nothing: its contract is that our own cases come out as they should. Without it the claims would stay true of a definition that
+// is wrong, if code and reading were changed with it.
+#[tactic(auto, using(crate::proofs::FormCases::all_written, crate::proofs::FormCases::all_formed, crate::proofs::FormCases::all_resolutions, crate::proofs::FormCases::room_is_asked))]
+pub fn worked_forms_are_answered_right()
+    ensures written { AreWritten }
+    ensures formed { failing 1 formed ≡ [] }
+    ensures resolutions { failing 1 resolutions ≡ [] }
+    ensures room { RoomIsAsked }
 {}
