@@ -8,3 +8,4 @@ pub mod Reports
 pub mod ReadBytes
 pub mod LinesBack
 pub mod Round
+pub mod TextCases

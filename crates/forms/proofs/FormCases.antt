@@ -11,13 +11,17 @@ use Rattle.calendar.specs.Calendar.{days_in, month_start, month_of, date_of, dat
 use Rattle.calendar.proofs.MonthSums.{month-here}
 use Rattle.texts.specs.Numerals.{decimal_before}
 use Rattle.forms.specs.Values.{line, hex_text, signed_decimal}
-use Rattle.forms.specs.Form.{has_form, code_lines, mark_lines, date_lines, all_fall, resolution_of, point_lines, part_lines, form_at}
+use Rattle.forms.specs.Form.{has_form, code_lines, mark_lines, date_lines, all_fall, resolution_of, point_lines, part_lines, form_at, form_of}
 use Rattle.forms.specs.Lent.{length_given, buffer_after, form_written}
 use Rattle.forms.specs.FormCases.{lines, first_form, changed_stop, stop_form, event_form, stepped_derating, stepped_form, AreWritten, formed, resolutions, RoomIsAsked}
 
 march : month_of 9556 ≡ 314
 unfolding month_start days_in computed
 march = sym (month-here {day = 9556} {n = 314} {s = 9556} refl refl (omega arith))
+
+pub first_form_of : form_of derating ≡ lines first_form
+unfolding computed has_form form_at code_lines mark_lines date_lines part_lines point_lines all_fall resolution_of line hex_text signed_decimal decimal_before date_of date_text month_start days_in
+first_form_of = rw march
 
 first : form_written derating ≡ Ok (lines first_form)
 unfolding computed form_written has_form form_at code_lines mark_lines date_lines part_lines point_lines all_fall resolution_of line hex_text signed_decimal decimal_before date_of date_text month_start days_in
