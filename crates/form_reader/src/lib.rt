@@ -2,21 +2,18 @@
 // is not written again: each line is told, as it is read, to be spelled as what was read of it is written.
 #![tactic(auto)]
 
-ghost use Rattle.std.specs.Prelude.{◌≡◌, ℕ, ◌+◌, ◌*◌, ◌-◌, ◌≤◌, ◌<◌, ◌%◌, ◌++◌, true, false, not, ◌&&◌, eqb, List, length, replicate, take, Ok, IfOk, MatchOption};
+ghost use Rattle.std.specs.Prelude.{◌≡◌, ◌+◌, ◌*◌, ◌-◌, ◌≤◌, ◌<◌, ◌%◌, ◌++◌, true, false, not, ◌&&◌, eqb, length, replicate, take, IfOk, MatchOption};
 ghost use Rattle.fields.specs.Ascii.{ascii};
 ghost use Rattle.fields.specs.Fields.{u8_at};
 ghost use Rattle.fields.specs.Lists.{pick, part};
-ghost use Rattle.report.specs.Report.{head_of, parts_of};
 ghost use Rattle.report.specs.Encoded.{encode_parts};
 ghost use Rattle.texts.specs.Texts.{Writes, Puts};
 ghost use Rattle.forms.specs.Values.{line, number_line};
-ghost use Rattle.forms.specs.Form.{text_of, has_form, all_fall, resolution_of, form_at, form_of, IsFormOf};
+ghost use Rattle.forms.specs.Form.{has_form};
 ghost use Rattle.forms.specs.Lent.{length_given, buffer_after};
 ghost use Rattle.form_reading.specs.Reading.{number_at, hex_value, resolution_in, is_point};
 ghost use Rattle.form_reading.specs.Reading.{text_length_in, lines_in, head_by, minute_of, grid_of, parts_in, report_by, report_of};
 ghost use Rattle.form_reading.specs.Reading.{is_form_of, form_read};
-ghost use Rattle.forms.specs.Lent.{no_report};
-ghost use Rattle.forms.specs.Form.{AreBytes};
 ghost use Rattle.form_reader.specs.Spelled.{Told};
 ghost use Rattle.form_reader.specs.SpelledForm.{is_own_form, body_by, HeadTold};
 

@@ -1,28 +1,34 @@
--- The texts that are refused, by computation: dates are read by their digits, without a search. Assumes nothing.
+-- The texts that are read and those that are refused, by computation: dates are read by their digits, without a search. Assumes nothing.
 use Prim.Native.Nat.{ℕ, ◌+◌}
 use mathlib.Core.Path.{◌≡◌, refl, sym, ap, ◌∙◌}
-use mathlib.Core.Bool.{Bool, true, ◌&&◌, ◌||◌, not, false≢true}
+use mathlib.Core.Bool.{Bool, true, false, ◌&&◌, ◌||◌, not, false≢true, and-false}
 use mathlib.Core.Logic.{⊎_elim}
 use mathlib.Core.List.{List, [], ◌∷◌}
-use Rattle.std.specs.Prelude.{Result, ◌%◌}
-use Rattle.fields.specs.Lists.{all, part, same_list}
+use Rattle.std.specs.Prelude.{Result, Ok, ◌%◌}
+use Rattle.fields.specs.Lists.{pick, all, part, same_list}
 use Rattle.fields.proofs.Bools.{and_left, and_right, or_cases, pick-elim}
-use Rattle.fields.proofs.Tests.{same-list-true}
+use Rattle.fields.proofs.Tests.{same-list-true, same-list-self}
 use Rattle.calendar.proofs.Reading.{by_digits}
-use Rattle.calendar.specs.Calendar.{days_in, month_start, minute_of}
+use Rattle.calendar.specs.Calendar.{days_in, month_start, minute_of, month_of, date_of, date_text}
 use Rattle.calendar.specs.Digits.{digit_value, date_in, date_by_digits}
 use Rattle.quantities.specs.declared.Minute.{Minute}
 use Rattle.rules.specs.Cases.{derating}
 use Rattle.rules.proofs.Computed.{computed}
 use Rattle.forms.specs.declared.FormError.{FormError}
-use Rattle.forms.specs.Form.{has_form, form_of}
-use Rattle.forms.specs.FormCases.{lines, first_form}
-use Rattle.forms.proofs.FormCases.{first_form_of}
+use Rattle.forms.specs.Form.{has_form, form_of, form_at, code_lines, mark_lines, date_lines, part_lines, point_lines, all_fall, resolution_of}
+use Rattle.forms.specs.FormCases.{lines, first_form, changed_stop, stop_form, event_form, stepped_derating, stepped_form}
+use Rattle.forms.specs.Lent.{form_written}
+use Rattle.forms.specs.Values.{line, hex_text, signed_decimal}
+use Rattle.texts.specs.Numerals.{decimal_before}
+use Rattle.rules.specs.Samples.{◌but◌, stamp, event_at}
+use Rattle.calendar.proofs.MonthSums.{month-here}
+use native.Mathlib.Omega.{arith}
+use Rattle.forms.proofs.FormCases.{march, first_form_of, all_written}
 use Rattle.form_reading.specs.declared.DateLines.{DateLines}
 use Rattle.form_reading.specs.declared.Lines.{Lines}
 use Rattle.form_reading.specs.Reading.{digits_at, number_at, power_at, hex_value, minute_or_0, code_lines_in, mark_lines_in, date_lines_in, resolution_in, point_in, point_at, point_count, text_length_in, head_by, lines_in, report_by, report_of, is_form_of, form_read}
 use Rattle.forms.specs.Lent.{no_report}
-use Rattle.form_reading.specs.TextCases.{texts_refused, AreRefused}
+use Rattle.form_reading.specs.TextCases.{texts_refused, dates_refused, with, AreRefused, AreReadBack}
 
 minute_by : List ℕ → ℕ → Minute
 minute_by s at = minute_or_0 (date_by_digits (part s at 16))
@@ -100,3 +106,54 @@ are-refused (text ∷ texts) t = (
 pub all_refused : AreRefused texts_refused
 unfolding computed refuses refused_as minute_by dates_by lines_by report_by digits_at number_at power_at hex_value code_lines_in mark_lines_in resolution_in point_in point_at point_count has_form same_list digit_value date_in date_by_digits minute_of month_start days_in
 all_refused = are-refused texts_refused refl
+
+january : month_of 0 ≡ 0
+unfolding month_start days_in computed
+january = sym (month-here {day = 0} {n = 0} {s = 0} refl refl (omega arith))
+
+other-form : (s : List ℕ) → same_list (form_of (report_by s (lines_by s))) s ≡ false → form_read s ≡ no_report
+unfolding form_read pick
+other-form s e = rw (same-lines s, e, and-false (has_form (report_by s (lines_by s))))
+
+stamp-1 : form_read (with 10 "stamp=2026-03-01T00:10") ≡ no_report
+unfolding computed minute_by dates_by lines_by report_by digits_at number_at power_at hex_value code_lines_in mark_lines_in resolution_in point_in point_at point_count has_form same_list digit_value date_in date_by_digits minute_of month_start days_in form_at code_lines mark_lines date_lines part_lines point_lines all_fall resolution_of line hex_text signed_decimal decimal_before date_of date_text
+stamp-1 = other-form (with 10 "stamp=2026-03-01T00:10") (rw january)
+
+stamp-2 : form_read (with 10 "stamp=2026-03-01 24:10") ≡ no_report
+unfolding computed minute_by dates_by lines_by report_by digits_at number_at power_at hex_value code_lines_in mark_lines_in resolution_in point_in point_at point_count has_form same_list digit_value date_in date_by_digits minute_of month_start days_in form_at code_lines mark_lines date_lines part_lines point_lines all_fall resolution_of line hex_text signed_decimal decimal_before date_of date_text
+stamp-2 = other-form (with 10 "stamp=2026-03-01 24:10") (rw january)
+
+stamp-3 : form_read (with 10 "stamp=2026-02-29 00:10") ≡ no_report
+unfolding computed minute_by dates_by lines_by report_by digits_at number_at power_at hex_value code_lines_in mark_lines_in resolution_in point_in point_at point_count has_form same_list digit_value date_in date_by_digits minute_of month_start days_in form_at code_lines mark_lines date_lines part_lines point_lines all_fall resolution_of line hex_text signed_decimal decimal_before date_of date_text
+stamp-3 = other-form (with 10 "stamp=2026-02-29 00:10") (rw january)
+
+start-1 : form_read (with 11 "start=2026-03-01 00:60") ≡ no_report
+unfolding computed minute_by dates_by lines_by report_by digits_at number_at power_at hex_value code_lines_in mark_lines_in resolution_in point_in point_at point_count has_form same_list digit_value date_in date_by_digits minute_of month_start days_in form_at code_lines mark_lines date_lines part_lines point_lines all_fall resolution_of line hex_text signed_decimal decimal_before date_of date_text
+start-1 = other-form (with 11 "start=2026-03-01 00:60") (rw (march, january))
+
+pub dates_are_refused : AreRefused dates_refused
+dates_are_refused = (stamp-1, (stamp-2, (stamp-3, (start-1, tt))))
+
+written-is : (s f : List ℕ) → form_written s ≡ Ok f → is_form_of f s ≡ true
+unfolding form_written
+written-is s f =
+    pick-elim (λ (a : Result (List ℕ) FormError). a ≡ Ok f → is_form_of f s ≡ true) (has_form s)
+    (λ t e.
+    let same : form_of s ≡ f = cc in
+    rw (t, same, same-list-self f))
+    (λ t e. absurd (cc))
+
+reads : (s f : List ℕ) → form_written s ≡ Ok f → report_by f (lines_by f) ≡ s → form_read f ≡ Ok s
+unfolding form_read pick
+reads s f w e =
+    let report : report_of f ≡ s = ap (report_by f) (same-lines f) ∙ e in
+    rw (report, written-is s f w)
+
+pub all_read : AreReadBack
+unfolding computed minute_by dates_by lines_by report_by digits_at number_at power_at hex_value code_lines_in mark_lines_in resolution_in point_in point_at point_count has_form same_list digit_value date_in date_by_digits minute_of month_start days_in
+all_read = record {
+  first = reads derating (lines first_form) all_written.first refl;
+  stopped = reads changed_stop (lines stop_form) all_written.stopped refl;
+  event = reads (event_at 5 9 but stamp 10) (lines event_form) all_written.event refl;
+  stepped = reads stepped_derating (lines stepped_form) all_written.stepped refl;
+}

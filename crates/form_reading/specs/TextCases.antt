@@ -1,10 +1,12 @@
--- 02, A4: texts that come close to a form and are the form of no report. Each is the form with which docs/FORM.md begins, but for one place.
-use Rattle.std.specs.Prelude.{ℕ, ◌+◌, ◌≡◌, List, [], ◌∷◌, ◌++◌, take, drop}
+-- 02, A4: texts that are read, and texts that come close to a form and are the form of no report, each the first form but for one place.
+use Rattle.std.specs.Prelude.{ℕ, ◌+◌, ◌≡◌, List, [], ◌∷◌, ◌++◌, take, drop, Ok}
 use Prim.Native.String.{String}
 use Rattle.fields.specs.Ascii.{ascii}
-use Rattle.forms.specs.FormCases.{lines, first_form}
-use Rattle.forms.specs.Lent.{no_report}
+use Rattle.rules.specs.Samples.{◌but◌, stamp, event_at}
+use Rattle.rules.specs.Cases.{derating}
+use Rattle.forms.specs.FormCases.{lines, first_form, changed_stop, stop_form, event_form, stepped_derating, stepped_form}
 use Rattle.form_reading.specs.Reading.{form_read}
+use Rattle.forms.specs.Lent.{no_report}
 
 -- line n, from 0, is another one
 abbrev pub with : ℕ → String → List ℕ
@@ -81,3 +83,19 @@ texts_refused =
 abbrev pub AreRefused : List (List ℕ) → Type 0
 AreRefused [] = Unit {0}
 AreRefused (text ∷ texts) = (form_read text ≡ no_report) × AreRefused texts
+
+-- a stamp or a start that is no date
+abbrev pub dates_refused : List (List ℕ)
+dates_refused =
+    with 10 "stamp=2026-03-01T00:10"
+    ∷ with 10 "stamp=2026-03-01 24:10"
+    ∷ with 10 "stamp=2026-02-29 00:10"
+    ∷ with 11 "start=2026-03-01 00:60"
+    ∷ []
+
+-- the worked forms give their reports back
+pub record AreReadBack : Type 0 where
+  pub first : form_read (lines first_form) ≡ Ok derating
+  pub stopped : form_read (lines stop_form) ≡ Ok changed_stop
+  pub event : form_read (lines event_form) ≡ Ok (event_at 5 9 but stamp 10)
+  pub stepped : form_read (lines stepped_form) ≡ Ok stepped_derating

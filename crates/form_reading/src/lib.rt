@@ -5,9 +5,9 @@
 ghost use Rattle.std.specs.Prelude.{◌≡◌, ℕ, ◌≤◌, true, List, length, Ok};
 ghost use Rattle.report.specs.Report.{head_of, parts_of};
 ghost use Rattle.forms.specs.Form.{text_of, has_form, all_fall, resolution_of, form_at, form_of, AreBytes, IsFormOf};
-ghost use Rattle.forms.specs.Lent.{no_report};
 ghost use Rattle.form_reading.specs.Reading.{form_read};
-ghost use Rattle.form_reading.specs.TextCases.{texts_refused, AreRefused};
+ghost use Rattle.forms.specs.Lent.{no_report};
+ghost use Rattle.form_reading.specs.TextCases.{texts_refused, dates_refused, AreRefused, AreReadBack};
 
 use quantities::{Minute, Period, SignedKilowatt};
 use report::Head;
@@ -91,8 +91,10 @@ pub fn finer_forms_are_refused()
         → form_read (form_at step (head_of s) (parts_of s) (text_of s)) ≡ no_report }
 {}
 
-// This does nothing: its contract is that our own texts, each close to a form, are 24.
-#[tactic(auto, using(crate::proofs::TextCases::all_refused))]
-pub fn worked_texts_are_refused()
-    ensures { AreRefused texts_refused }
+// This does nothing: its contract is that the worked forms give their reports back, and that our own texts, each close to a form, are 24.
+#[tactic(auto, using(crate::proofs::TextCases::all_read, crate::proofs::TextCases::all_refused, crate::proofs::TextCases::dates_are_refused))]
+pub fn worked_texts_are_answered_right()
+    ensures read { AreReadBack }
+    ensures refused { AreRefused texts_refused }
+    ensures dates { AreRefused dates_refused }
 {}

@@ -15,7 +15,7 @@ use Rattle.forms.specs.Form.{has_form, code_lines, mark_lines, date_lines, all_f
 use Rattle.forms.specs.Lent.{length_given, buffer_after, form_written}
 use Rattle.forms.specs.FormCases.{lines, first_form, changed_stop, stop_form, event_form, stepped_derating, stepped_form, AreWritten, formed, resolutions, RoomIsAsked}
 
-march : month_of 9556 ≡ 314
+pub march : month_of 9556 ≡ 314
 unfolding month_start days_in computed
 march = sym (month-here {day = 9556} {n = 314} {s = 9556} refl refl (omega arith))
 

@@ -1,14 +1,14 @@
 // Reports written as a form of lines.
 #![tactic(auto)]
 
-ghost use Rattle.std.specs.Prelude.{◌≡◌, true, List, [], ◌∷◌, ℕ, ◌+◌, ◌*◌, ◌≤◌, length, drop, pos, Ok, IfOk};
+ghost use Rattle.std.specs.Prelude.{◌≡◌, true, List, [], ◌∷◌, ◌+◌, ◌*◌, ◌≤◌, length, drop, pos, Ok, IfOk};
 ghost use Rattle.std.specs.Int.Signed.{le_z};
-ghost use Rattle.fields.specs.Lists.{all, series};
+ghost use Rattle.fields.specs.Lists.{all};
 ghost use Rattle.fields.specs.Ascii.{ascii};
 ghost use Rattle.quantities.specs.Quantities.{is_time};
 ghost use Rattle.report.specs.declared.Head.{Head};
 ghost use Rattle.report.specs.declared.Part.{Part};
-ghost use Rattle.report.specs.Report.{most_parts, parts_of, part_count_of, head_of, whole};
+ghost use Rattle.report.specs.Report.{parts_of, part_count_of, head_of, whole};
 ghost use Rattle.rules.specs.Codes.{between};
 ghost use Rattle.texts.specs.Numerals.{decimal};
 ghost use Rattle.forms.specs.Values.{line, number_line, date_line, hex_text, signed_decimal};
