@@ -138,6 +138,10 @@ forms() {
   logged <(printf '') ./desk report - < /dev/null
   refused 1 'desk: no such file: no/such' ./desk report no/such
   refused 1 $'desk: no such file: no/such\ndesk: the roster can'"'"'t be copied: no/such' ./desk report "$forms" no/such
+  refused 2 'desk: the ROSTER is a file: standard input has the forms or nothing' ./desk report "$forms" -
+  refused 1 'desk: standard input is closed' timeout 20 bash -c './desk form - <&-'
+  refused 1 'desk: standard input is closed' timeout 20 bash -c './desk log - <&-'
+  refused 1 'desk: standard output is closed' timeout 20 bash -c './desk form samples/roster-a.stream >&-'
   refused 0 'report_forms: the one argument that it takes is reports' target/bin/report_forms forms
   refused 1 "report_forms: standard input can't be read: Is a directory" bash -c './desk report - < samples'
   refused 1 "report_forms: standard input can't be read: Is a directory" bash -c './desk form - < samples'
@@ -161,7 +165,7 @@ refused_forms() {
 3s/2/02/|$refusal line 3 has no number in its range, or one with zeros in front, a sign or a blank
 s/^ordinal=1/ordinal=70000/|$refusal line 9 has no number in its range, or one with zeros in front, a sign or a blank
 s/^identifier=0/identifier=A/|$refusal line 10 has no 32 digits 0 to 9 and a to f
-s/^point=1 20000/point=1 020000/|$refusal line 15 has to be point=1 20000
+s/^point=1 20000/point=1 020000/|$refusal line 15 has no position, blank and power as they are written, or one out of range
 s/\$/\r/|$refusal it has a CR; a line ends in one line feed
 s/^direction=1/&\n/|report_forms: form 1, lines 1 to 17: 24, line 6 has to begin with start_mark=
 s/^resolution=60/resolution=15/|$refusal line 14 has to be resolution=60

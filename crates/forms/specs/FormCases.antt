@@ -102,7 +102,8 @@ stepped_derating =
     ∷ powered 15 30 (pos 5000)
     ∷ powered 30 60 (neg_ℤ (pos 1))
     ∷ powered 60 65 (neg_ℤ (pos 2147483648))
-    ∷ powered 65 75 (pos 2147483647)
+    ∷ powered 65 70 (pos 2147483647)
+    ∷ powered 70 75 (pos 0)
     ∷ [])
     but operation change but direction 2 but with_end_mark 2 but stamp 90 but text (ascii " ")
 
@@ -127,6 +128,7 @@ stepped_form =
     ∷ "point=7 -1"
     ∷ "point=13 -2147483648"
     ∷ "point=14 2147483647"
+    ∷ "point=15 0"
     ∷ "text= "
     ∷ []
 

@@ -165,6 +165,9 @@ fn put_line_of(text: &mut Text, line: usize, right: &[u8]) {
         Some(right_line) if right_line.len() == 206 => {
             text.put(b" has more than 200 characters");
         }
+        Some(right_line) if right_line.starts_with(b"point=") => {
+            text.put(b" has no position, blank and power as they are written, or one out of range");
+        }
         Some(right_line) => {
             text.put(b" has to be ");
             text.put(right_line.strip_suffix(b"\n").unwrap_or(right_line));
