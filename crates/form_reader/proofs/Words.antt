@@ -1,10 +1,8 @@
 -- Lists of bytes compared as numbers: eight or four of them at a time, in two runs that may overlap. Assumes nothing.
-use Rattle.std.proofs.Common.{◌≡◌, ℕ, ◌+◌, ◌-◌, ◌*◌, ◌≤◌, ◌<◌, Bool, true, ◌&&◌, List, ap, sym, ◌∙◌, length, get_or, eqb, w32, w64, arith, zero-add}
+use Rattle.std.proofs.Common.{◌≡◌, ℕ, ◌+◌, ◌-◌, ◌*◌, ◌≤◌, ◌<◌, Bool, true, ◌&&◌, List, ap, sym, ◌∙◌, length, get_or, eqb, arith, zero-add}
 use mathlib.Core.Logic.{⊎_elim}
 use borrow.Author.Tests.{eqb-true, eq-eqb}
-use Rattle.std.specs.Int.{from_le_bytes, to_le_bytes}
 use Rattle.std.proofs.lemmas.List.{get_or_past, ext_get_or}
-use Rattle.std.proofs.lemmas.Nat.{le_bytes_4, le_bytes_8}
 use Rattle.fields.specs.Fields.{u8_at}
 use Rattle.fields.specs.Lists.{series, same_list}
 use Rattle.fields.proofs.Bools.{and_left, and_right, and_both, both_ways, lt-or-le}
@@ -18,36 +16,23 @@ series-bytes s at n b i =
     ⊎_elim (λ (l : i < n). rw (series-at (u8_at s) at n i 0 l) (b (at + i)))
     (λ (l : n ≤ i). rw (get_or_past (series (u8_at s) at n) i 0 (rw (series-length (u8_at s) at n) l)) (omega arith)) (lt-or-le i n)
 
-module _ (a b : List ℕ) (at : ℕ) (a-bytes : Bytes a) (b-bytes : Bytes b) where
-  pub same_8 : {v w : ℕ} {x y : List ℕ} → x ≡ series (u8_at a) at 8 → y ≡ series (u8_at b) at 8 → v ≡ from_le_bytes w64 x
-      → w ≡ from_le_bytes w64 y → eqb v w ≡ same_list (series (u8_at a) at 8) (series (u8_at b) at 8)
-  same_8 {v} {w} e f g h =
-      let x = series (u8_at a) at 8 in
-      let y = series (u8_at b) at 8 in
-      let from : v ≡ from_le_bytes w64 x = rw e at g in
-      let from2 : w ≡ from_le_bytes w64 y = rw f at h in
-      let back = le_bytes_8 x v (series-length (u8_at a) at 8) (series-bytes a at 8 a-bytes) from in
-      let back2 = le_bytes_8 y w (series-length (u8_at b) at 8) (series-bytes b at 8 b-bytes) from2 in
-      both_ways (eqb v w) (same_list x y)
-      (λ t.
-      let same : x ≡ y = sym back ∙ ap (to_le_bytes w64) (eqb-true v w t) ∙ back2 in
-      rw same (same-list-self y))
-      (λ t. eq-eqb v w (from ∙ ap (from_le_bytes w64) (same-list-true x y t) ∙ sym from2))
-
-  pub same_4 : {v w : ℕ} {x y : List ℕ} → x ≡ series (u8_at a) at 4 → y ≡ series (u8_at b) at 4 → v ≡ from_le_bytes w32 x
-      → w ≡ from_le_bytes w32 y → eqb v w ≡ same_list (series (u8_at a) at 4) (series (u8_at b) at 4)
-  same_4 {v} {w} e f g h =
-      let x = series (u8_at a) at 4 in
-      let y = series (u8_at b) at 4 in
-      let from : v ≡ from_le_bytes w32 x = rw e at g in
-      let from2 : w ≡ from_le_bytes w32 y = rw f at h in
-      let back = le_bytes_4 x v (series-length (u8_at a) at 4) (series-bytes a at 4 a-bytes) from in
-      let back2 = le_bytes_4 y w (series-length (u8_at b) at 4) (series-bytes b at 4 b-bytes) from2 in
-      both_ways (eqb v w) (same_list x y)
-      (λ t.
-      let same : x ≡ y = sym back ∙ ap (to_le_bytes w32) (eqb-true v w t) ∙ back2 in
-      rw same (same-list-self y))
-      (λ t. eq-eqb v w (from ∙ ap (from_le_bytes w32) (same-list-true x y t) ∙ sym from2))
+-- n bytes are the same where their numbers are, as the bytes of a number are those that it is of
+pub same_as : (n : ℕ) (number : List ℕ → ℕ) (written : ℕ → List ℕ)
+    → ((x : List ℕ) (v : ℕ) → length x ≡ n → Bytes x → v ≡ number x → written v ≡ x) → (a b : List ℕ) (at : ℕ) → Bytes a → Bytes b
+    → {v w : ℕ} {x y : List ℕ} → x ≡ series (u8_at a) at n → y ≡ series (u8_at b) at n → v ≡ number x → w ≡ number y
+    → eqb v w ≡ same_list (series (u8_at a) at n) (series (u8_at b) at n)
+same_as n number written back a b at a-bytes b-bytes {v} {w} e f g h =
+    let x = series (u8_at a) at n in
+    let y = series (u8_at b) at n in
+    let from : v ≡ number x = rw e at g in
+    let from2 : w ≡ number y = rw f at h in
+    let first = back x v (series-length (u8_at a) at n) (series-bytes a at n a-bytes) from in
+    let second = back y w (series-length (u8_at b) at n) (series-bytes b at n b-bytes) from2 in
+    both_ways (eqb v w) (same_list x y)
+    (λ t.
+    let same : x ≡ y = sym first ∙ ap written (eqb-true v w t) ∙ second in
+    rw same (same-list-self y))
+    (λ t. eq-eqb v w (from ∙ ap number (same-list-true x y t) ∙ sym from2))
 
 -- the first k and the last k are all
 module _ (a b : List ℕ) (k : ℕ) where
