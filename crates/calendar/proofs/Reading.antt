@@ -3,14 +3,13 @@ use Rattle.std.specs.Prelude.{Result, Ok}
 use Prim.Native.Nat.{ℕ, ◌+◌, ◌-◌, ◌*◌, ◌/◌, ◌%◌, ◌≤◌, ◌<◌}
 use mathlib.Core.Path.{◌≡◌, refl, ap, sym, ◌∙◌}
 use mathlib.Core.Bool.{Bool, true, false, false≢true}
-use mathlib.Core.List.{List, [], ◌∷◌, ◌++◌}
+use mathlib.Core.List.{List, [], ◌∷◌}
 use mathlib.Core.Logic.{⊎_elim}
 use native.Mathlib.Omega.{arith}
 use native.Mathlib.Nat.{div-div-eq-div-mul, zero-add}
 use native.Mathlib.Numerals.{add-one}
-use Rattle.std.proofs.lemmas.List.Edits.{sets-eq}
 use lib.Dec.{leb, ltb, eqb}
-use lib.ListN.{length, drop}
+use lib.ListN.{length}
 use lib.Seq.{ext_get_or}
 use borrow.Author.Tests.{lt-ltb, ltb-true, ltb-false, le-ltb, le-leb, lt-leb, leb-true, eqb-true, eq-eqb, ne_eqb}
 use Rattle.std.specs.List.{list_all}
@@ -314,14 +313,13 @@ refused-only s e m p =
     cc
 
 -- a print stands at the start of a text that has room for it
-pub date-there : (m : Minute) (text date : List ℕ) → print_answer m ≡ Ok date → 16 ≤ length text → date ++ drop 16 text ≡ date_put m text
-unfolding pick put date_text
-date-there m text date e l = by-case (is_time m) refl where
-  by-case : (t : Bool) → is_time m ≡ t → date ++ drop 16 text ≡ date_put m text
+pub date_there : (m : Minute) (text date : List ℕ) → print_answer m ≡ Ok date → 16 ≤ length text → put text 0 date ≡ date_put m text
+unfolding pick
+date_there m text date e l = by-case (is_time m) refl where
+  by-case : (t : Bool) → is_time m ≡ t → put text 0 date ≡ date_put m text
   by-case true t =
       let printed : print_of m ≡ date = (let ok = rw t at e in cc) in
-      let room = le-leb 16 (length text) l in
-      rw (t, room, ← printed) (sym (sets-eq (print_of m) text 0 (rw zero-add l)))
+      rw (t, le-leb 16 (length text) l, ← printed) refl
   by-case false t =
       let no = rw t at e in
       absurd (cc)

@@ -1,6 +1,7 @@
 -- The elements of a list from a place on, read in what is there. Assumes nothing.
 use Rattle.std.proofs.Common.{◌≡◌, ℕ, zero, suc, ◌+◌, ◌-◌, ◌≤◌, List, refl, sym, ◌∙◌, ap, length, take, drop, get_or, length-drop, arith, add-zero, add-one}
 use Rattle.std.proofs.Math.Seq.{drop-cons, get_or-drop}
+use Rattle.std.proofs.lemmas.List.{take_all}
 use Rattle.std.specs.Array.{IsFirstChunk}
 use Rattle.std.proofs.Common.{Option, Some, None, MatchOption, IfSome, Bor, ◌<◌}
 use Rattle.fields.specs.Lists.{series}
@@ -36,3 +37,12 @@ pub chunk-read : (s rest : List ℕ) (at n : ℕ) → rest ≡ drop at s → (o 
     → MatchOption o (length rest < n) (λ y. IsFirstChunk rest y.now n) → IfSome o (λ y. y.now ≡ series (u8_at s) at n)
 chunk-read s rest at n e (Some y) h = from-chunk s rest at e n y.now h.enough h.same
 chunk-read s rest at n e None h = tt
+
+-- the same of bytes that begin at a place and are as many
+pub chunk-within : (s bytes : List ℕ) (at n end : ℕ) → end ≡ at + n → end ≤ length s → bytes ≡ take (end - at) (drop at s) → length bytes + at ≡ end
+    → (o : Option (Bor (List ℕ))) → MatchOption o (length bytes < n) (λ y. IsFirstChunk bytes y.now n) → IfSome o (λ y. y.now ≡ series (u8_at s) at n)
+chunk-within s bytes at n end e room is-part as-long (Some y) h =
+    let wide : end - at ≡ n = omega arith in
+    let all : length bytes ≤ n = omega arith in
+    h.same ∙ take_all n bytes all ∙ is-part ∙ rw wide (sym (series-taken s at n (omega arith)))
+chunk-within s bytes at n end e room is-part as-long None h = tt

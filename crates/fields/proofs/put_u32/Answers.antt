@@ -9,4 +9,4 @@ returns c =
     let v = c.args.v in
     let two : v / 256 / 256 ≡ v / 65536 = div-div-eq-div-mul v 256 256 in
     let three : v / 65536 / 256 ≡ v / 16777216 = div-div-eq-div-mul v 65536 256 in
-    rw (c.put_bytes.ensures, c.to_le_bytes.ensures) (rw (two, three))
+    rw (c.put_bytes.ensures, c.to_le_bytes-bytes.ensures) (rw (two, three))
