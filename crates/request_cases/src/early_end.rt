@@ -1,4 +1,6 @@
 // A2: a derating on unit 1 of roster A, 20,000 kW from 12:00, planned to 16:00, that ended at 14:07.
+ghost use Rattle.std.specs.Prelude.{◌≤◌, length};
+
 use crate::lines::print_line;
 use report::{Mark, Operation, RecordType};
 use sent_reports::{D, MOST_BYTES, REGISTER_SIZE, Sent, derating_over, event, fresh_register};
@@ -67,7 +69,9 @@ fn ended(stamp: u32, end: u32) -> Change {
 }
 
 // Puts the report's bytes at the start of the buffer, and lends them.
-fn compose(buffer: &mut [u8], c: Change) -> &mut [u8] {
+fn compose(buffer: &mut [u8], c: Change) -> &mut [u8]
+    ensures { length result.now ≤ 82 }
+{
     let report = sent_reports::compose(buffer, c.sent);
     fields::put_u8(report, 7, c.operation.0);
     fields::put_u8(report, 10, c.end_mark.0);

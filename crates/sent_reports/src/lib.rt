@@ -1,7 +1,7 @@
 // Roster A and the reports that paper 01 sends, as bytes, and a register fresh from roster A.
 #![tactic(auto)]
 
-ghost use Rattle.std.specs.Prelude.{◌≡◌, ◌+◌, ◌≤◌, [], ◌∷◌, ◌++◌, length, take};
+ghost use Rattle.std.specs.Prelude.{◌≡◌, ◌+◌, ◌≤◌, [], ◌∷◌, ◌++◌, length, take, min};
 ghost use Rattle.fields.specs.Fields.{bytes_of};
 ghost use Rattle.fields.specs.Lists.{pick, put};
 ghost use Rattle.report.specs.Encoded.{encode_head, encode_part, encode_parts};
@@ -218,6 +218,8 @@ fn put_report(report: &mut [u8], s: Sent)
 // Puts the report's bytes at the start of the buffer, and lends them, as far as there is room.
 #[tactic(auto, using(crate::proofs::Reports::report_read))]
 pub fn compose(buffer: &mut [u8], s: Sent) -> &mut [u8]
+    ensures upper_bound { length result.now ≤ 82 }
+    ensures length { length result.now ≡ min (length_sent s) (length buffer.old) }
     ensures value { result.now ≡ take (length_sent s) (put buffer.old 0 (report_sent s)) }
     ensures whole { MOST_BYTES ≤ length buffer.old → result.now ≡ report_sent s }
 {

@@ -1,5 +1,5 @@
 use Rattle.std.proofs.Common.{◌≤◌, ◌-◌, length}
-use Rattle.streams.proofs.read_full.Given as goal
+use Rattle.streams.proofs.fill.Given as goal
 
 abbrev pub invariant-loop-read : goal.invariant-loop-read
 invariant-loop-read g l = l.read ≤ length l.bytes
