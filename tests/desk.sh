@@ -231,6 +231,14 @@ END
   told 'newer sources are not built' grep -q '^rt: run$' "$room/err"
 }
 
+# a machine without /proc gets its log as any other
+without_proc() {
+  local hidden='mount -t tmpfs none /proc && exec ./desk log samples/roster-a.stream'
+  unshare -rm mount -t tmpfs none /proc 2> /dev/null || { echo 'desk.sh: no /proc can be hidden here: not tried'; return; }
+  logged samples/roster-a.log unshare -rm bash -c "$hidden"
+  refused 1 'desk: standard output is closed' unshare -rm bash -c "$hidden >&-"
+}
+
 # root reads every file, so that root tries it as nobody
 unreadable_file() {
   local as=()
@@ -309,5 +317,6 @@ dates
 forms
 bare_folder
 builds
+without_proc
 unreadable_file
 exit "$failed"
