@@ -104,13 +104,13 @@ apart-taken zs end w = ap (each_apart []) (sym (take-append-drop end zs)) ∙ ap
 pub record Apart (zs : List (List ℕ)) (ok : Bool) (i : ℕ) : Type 0 where
   pub so_far : each_apart [] zs ≡ (ok && each_apart (take i zs) (drop i zs))
 
-pub apart-more : {zs : List (List ℕ)} {ok r : Bool} {i : ℕ} → Apart zs ok i → i < length zs
+pub apart_more : {zs : List (List ℕ)} {ok r : Bool} {i : ℕ} → Apart zs ok i → i < length zs
     → r ≡ list_all (slots_apart (get_or zs i [])) (take i zs) → Apart zs (ok && r) (i + 1)
 unfolding each_apart
-apart-more {zs} {ok} {i = i} t h q = record { so_far = t.so_far ∙ rw (drop-cons zs i [] h, ← q, ← take_more zs i [] h, add-one i) (sym (and_assoc ok _ _)) }
+apart_more {zs} {ok} {i = i} t h q = record { so_far = t.so_far ∙ rw (drop-cons zs i [] h, ← q, ← take_more zs i [] h, add-one i) (sym (and_assoc ok _ _)) }
 
-pub apart-all : {zs : List (List ℕ)} {ok : Bool} {i : ℕ} → Apart zs ok i → i ≡ length zs → ok ≡ each_apart [] zs
+pub apart_all : {zs : List (List ℕ)} {ok : Bool} {i : ℕ} → Apart zs ok i → i ≡ length zs → ok ≡ each_apart [] zs
 unfolding each_apart
-apart-all {zs} {ok} {i} t h =
+apart_all {zs} {ok} {i} t h =
     let past : length zs ≤ i = omega arith in
     sym (t.so_far ∙ rw (drop_of_length-le zs past) (and-true ok))

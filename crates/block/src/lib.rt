@@ -386,6 +386,7 @@ fn slot_apart_below(y: &[u8], below: &[[u8; SLOT_SIZE]]) -> bool
     !is_used(y) || apart_from(record_in(y), below)
 }
 
+#[tactic(auto, using(crate::proofs::FreeSlots::apart_more, crate::proofs::FreeSlots::apart_all))]
 fn slots_apart(slots: &[[u8; SLOT_SIZE]]) -> bool
     ensures { result ≡ each_apart [] slots.now }
 {

@@ -35,6 +35,7 @@ fn ask(number: u8, yes: bool) -> Result<(), Refusal>
 }
 
 // Questions 4 to 19 on the unit's own block, lent as a part of the register, and the warnings.
+#[tactic(auto, using(crate::proofs::Judged::refused_value, crate::proofs::Judged::refused_ok, crate::proofs::Judged::refused_after, crate::proofs::Judged::accepted_value, crate::proofs::Judged::accepted_ok, crate::proofs::Judged::accepted_after))]
 fn judge_block(b: &mut [u8], report: &[u8]) -> Result<u8, Refusal>
     requires whole_block { block_whole (unit_head b.old).unit b.old ≡ true }
     requires few_parts { part_count_of report.now ≤ most_parts }
