@@ -70,7 +70,7 @@ fn ended(stamp: u32, end: u32) -> Change {
 
 // Puts the report's bytes at the start of the buffer, and lends them.
 fn compose(buffer: &mut [u8], c: Change) -> &mut [u8]
-    ensures { length result.now ≤ 82 }
+    ensures { length result.now ≤ MOST_BYTES }
 {
     let report = sent_reports::compose(buffer, c.sent);
     fields::put_u8(report, 7, c.operation.0);

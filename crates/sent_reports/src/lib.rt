@@ -218,7 +218,7 @@ fn put_report(report: &mut [u8], s: Sent)
 // Puts the report's bytes at the start of the buffer, and lends them, as far as there is room.
 #[tactic(auto, using(crate::proofs::Reports::report_read))]
 pub fn compose(buffer: &mut [u8], s: Sent) -> &mut [u8]
-    ensures upper_bound { length result.now ≤ 82 }
+    ensures upper_bound { length result.now ≤ MOST_BYTES }
     ensures length { length result.now ≡ min (length_sent s) (length buffer.old) }
     ensures value { result.now ≡ take (length_sent s) (put buffer.old 0 (report_sent s)) }
     ensures whole { MOST_BYTES ≤ length buffer.old → result.now ≡ report_sent s }

@@ -36,20 +36,20 @@ pub fn read_once<R: Read>(reader: &mut R, bytes: &mut [u8]) -> io::Result<Option
 
 // A read that failed, and how many bytes had come before it.
 #[derive(Clone, Copy, Debug)]
-pub struct Cut {
+pub struct FailedRead {
     pub read: usize,
     pub error: io::Error,
 }
 
 // Reads until the bytes are full, the input ends or a read fails. How many came is told as std's `read` tells it, since callers go on in the
 // same bytes; `read_exact` would not tell how many came before an end.
-pub fn fill<R: Read>(reader: &mut R, bytes: &mut [u8]) -> Result<usize, Cut>
-    ensures { MatchResult result (λ read. read ≤ length bytes.old) (λ cut. cut.read ≤ length bytes.old) }
+pub fn fill<R: Read>(reader: &mut R, bytes: &mut [u8]) -> Result<usize, FailedRead>
+    ensures { MatchResult result (λ read. read ≤ length bytes.old) (λ failed. failed.read ≤ length bytes.old) }
 {
     let mut read = 0;
     while read < bytes.len() {
         let brought = read_once(reader, &mut bytes[read..]);
-        match brought.map_err(|error| Cut { read, error })? {
+        match brought.map_err(|error| FailedRead { read, error })? {
             Some(got) => read += got,
             None => break,
         }
@@ -61,7 +61,7 @@ pub fn fill<R: Read>(reader: &mut R, bytes: &mut [u8]) -> Result<usize, Cut>
 pub fn read_full<R: Read>(reader: &mut R, bytes: &mut [u8]) -> io::Result<usize>
     ensures { IfOk result (λ read. read ≤ length bytes.old) }
 {
-    fill(reader, bytes).map_err(|cut| cut.error)
+    fill(reader, bytes).map_err(|failed| failed.error)
 }
 
 // A line on standard error: what failed, and why.
